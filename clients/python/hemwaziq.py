@@ -221,6 +221,10 @@ class _Commands:
         """Brings what waits in write buffers to the devices, and answers how many buffers that were."""
         return self._ask("flush", _NUMBER)
 
+    def heal(self):
+        """Closes the gates of which it isn't known whether they are closed, and answers how many. Behind a `flush` the next `raid` is exact then."""
+        return self._ask("heal", _NUMBER)
+
     def expire(self):
         """Removes what is expired, and answers how many records."""
         return self._ask("expire", _NUMBER)

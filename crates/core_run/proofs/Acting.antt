@@ -5,9 +5,9 @@ use Rattle.std.proofs.lemmas.List.{map-append}
 use Rattle.disk_model.specs.Disk.{DiskView, IsDisk}
 use Rattle.model_device.specs.Book.{Setup}
 use Rattle.model_device.specs.Device.{State}
-use Rattle.model_device.specs.Events.{Event, Call, Cause, Answer, flush_call, disk_fault, counted, refused}
+use Rattle.model_device.specs.Events.{Event, Call, Cause, Answer, flush_call, heal_call, disk_fault, counted, refused}
 use Rattle.model_device.specs.Vacating.{Outcome, VacatesUpTo, Tends, did, stopped}
-use Rattle.model_node.specs.Commands.{Slot, Node, NodeEvent, EachDevice, Flushes, Defragments, expired_entries, Expires, Raids, fault_of, TendsEach, on_device}
+use Rattle.model_node.specs.Commands.{Slot, Node, NodeEvent, EachDevice, CountsOnce, Flushes, Heals, Defragments, expired_entries, Expires, Raids, fault_of, TendsEach, on_device}
 use Rattle.model_device.specs.Expiring.{ExpiresEach}
 use Rattle.model_node.specs.Run.{ClosesEach}
 use Rattle.shard_core.specs.View.{ShardView, setup_of}
@@ -19,9 +19,9 @@ use Rattle.shard_core.specs.declared.refusals.WriteRefusal.{WriteRefusal}
 use Rattle.line_proto.specs.declared.reply.LineFault.{LineFault}
 use Rattle.shard_core.proofs.Events.{RunsBy, runs_one, runs_made}
 use Rattle.core_run.specs.Standing.{Each, StandsOn, StandsSafelyOn}
-use Rattle.node_replies.specs.Outcomes.{EndsAs, IsFlushed}
+use Rattle.node_replies.specs.Outcomes.{EndsAs, IsFlushed, IsHealed}
 use Rattle.node_replies.specs.Through.{Through}
-use Rattle.core_run.specs.Turns.{GoesOn, TendTurn, CloseTurn, WorksEach, plus_one, plus_both, FlushesOn, FlushesEach, DefragsOn}
+use Rattle.core_run.specs.Turns.{GoesOn, TendTurn, CloseTurn, WorksEach, plus_one, plus_both, FlushesOn, FlushesEach, HealsOn, HealsEach, DefragsOn}
 use Rattle.node_replies.specs.Outcomes.{IsDefragged, IsExpired, IsRaided}
 use Rattle.core_run.specs.Turns.{IsDefrag, DefragsEach, ExpiresOn, IsExpiry, ExpiresAll, slot_for, RaidsOn, IsRaid, RaidsEach}
 use Rattle.core_run.proofs.Places.{moved, events_of, nones, no_events, only_at, only_event}
@@ -166,27 +166,39 @@ module _ {D : Type 0} (view : D → DiskView) (Stands : ShardView D → Slot →
     work_turns (Err why) a (old ∷ olds) (new ∷ news) (slot ∷ node) (inr (x, does, more)) stands =
         one_more (Err why) a x old new olds news slot node does stands.0 (work_turns (Err why) (plus a x) olds news node more stands.1)
 
+  -- one event whose count is the outcome
+  count_does : {E : Type 0} (call : Call) (done : Result ℕ E) (old new : ShardView D) (slot : Slot) → GoesOn view old new → Makes view call (flush_answer done) old slot.state new → Stands old slot
+      → (outcome : Outcome) × IsFlushed done outcome × (mine : List Event) × CountsOnce call slot mine outcome × Holds old new slot mine
+  count_does call (Ok n) old new slot goes m stands =
+      (did n 0, refl, m.event ∷ [], (m.event, refl, m.is_call, inl (n, m.is_answer, refl)), one_made old new goes slot call (counted n) m stands)
+  count_does call (Err fault) old new slot goes m stands = (
+    stopped disk_fault,
+    (disk_fault, refl, refl),
+    m.event ∷ [],
+    (m.event, refl, m.is_call, inr (disk_fault, m.is_answer, refl)),
+    one_made old new goes slot call (refused disk_fault) m stands,
+  )
+
   -- a flush
   flush_does : {E : Type 0} (flushed : Result ℕ E) (old new : ShardView D) (slot : Slot) → FlushesOn view flushed old new → Stands old slot
       → (outcome : Outcome) × IsFlushed flushed outcome × (mine : List Event) × Flushes slot mine outcome × Holds old new slot mine
-  flush_does {E} flushed old new slot flushes stands = by flushed (flushes.makes slot.state (kind.stands old slot stands).agrees)
-    where
-      by : (f : Result ℕ E) → Makes view flush_call (flush_answer f) old slot.state new → (outcome : Outcome) × IsFlushed f outcome × (mine : List Event) × Flushes slot mine outcome
-          × Holds old new slot mine
-      by (Ok n) m = (did n 0, refl, m.event ∷ [], (m.event, refl, m.is_call, inl (n, m.is_answer, refl)), one_made old new flushes.goes slot flush_call (counted n) m stands)
-      by (Err fault) m = (
-        stopped disk_fault,
-        (disk_fault, refl, refl),
-        m.event ∷ [],
-        (m.event, refl, m.is_call, inr (disk_fault, m.is_answer, refl)),
-        one_made old new flushes.goes slot flush_call
-            (refused disk_fault) m stands,
-      )
+  flush_does flushed old new slot flushes stands =
+      count_does flush_call flushed old new slot flushes.goes (flushes.makes slot.state (kind.stands old slot stands).agrees) stands
 
   pub flush_turns : {E : Type 0} (flushed : Result ℕ E) (olds news : List (ShardView D)) (node : Node) → FlushesEach view flushed olds news → Each Stands olds node
       → Turned olds news node (λ mines. (outcome : Outcome) × IsFlushed flushed outcome × EachDevice Flushes 0 node 0 0 (events_of mines) outcome)
   flush_turns {E} flushed olds news node each stands =
       work_turns (FlushesOn {E = E} view) plus_one (λ n. (n, 0)) (λ fault cause. cause ≡ disk_fault) Flushes (λ a b. refl) flush_does flushed 0 olds news node each stands
+
+  -- a heal
+  heal_does : {E : Type 0} (healed : Result ℕ E) (old new : ShardView D) (slot : Slot) → HealsOn view healed old new → Stands old slot
+      → (outcome : Outcome) × IsHealed healed outcome × (mine : List Event) × Heals slot mine outcome × Holds old new slot mine
+  heal_does healed old new slot heals stands = count_does heal_call healed old new slot heals.goes (heals.makes slot.state (kind.stands old slot stands).agrees) stands
+
+  pub heal_turns : {E : Type 0} (healed : Result ℕ E) (olds news : List (ShardView D)) (node : Node) → HealsEach view healed olds news → Each Stands olds node
+      → Turned olds news node (λ mines. (outcome : Outcome) × IsHealed healed outcome × EachDevice Heals 0 node 0 0 (events_of mines) outcome)
+  heal_turns {E} healed olds news node each stands =
+      work_turns (HealsOn {E = E} view) plus_one (λ n. (n, 0)) (λ fault cause. cause ≡ disk_fault) Heals (λ a b. refl) heal_does healed 0 olds news node each stands
 
   -- a defragmentation
   defrag_does : (result : Result (ℕ × ℕ) DefragCause) (old new : ShardView D) (slot : Slot) → DefragsOn view result old new → Stands old slot

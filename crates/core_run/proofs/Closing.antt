@@ -14,8 +14,9 @@ use Rattle.shard_core.specs.Stands.{Agrees}
 use Rattle.model_node.specs.Commands.{Slot, Node, node_after}
 use Rattle.model_node.specs.Outside.{RoseOn}
 use Rattle.model_node.specs.RunEnd.{IsQuiet, AllQuiet}
-use Rattle.core_run.specs.Views.{serving, disks_served, faults_of}
-use Rattle.core_run.specs.Standing.{Each, StandsOn, StandsSafelyOn}
+use Rattle.core_run.specs.Views.{serving, unknown, disks_served, faults_of}
+use Rattle.model_node.specs.Meaning.{ClosesFrom}
+use Rattle.core_run.specs.Standing.{Each, StandsOn, StandsSafelyOn, StandsFor}
 use Rattle.core_run.specs.Calls.{ClosedSo, Closes}
 use Rattle.node_replies.specs.Through.{Through}
 use Rattle.core_run.specs.Turns.{CloseTurn, FlushesOn, first_failed}
@@ -23,6 +24,7 @@ use Rattle.core_run.proofs.Surely.{sure_through}
 use Rattle.core_run.proofs.Places.{events_of}
 use Rattle.core_run.proofs.Making.{Made, LeftOn, along_after, each_more}
 use Rattle.core_run.proofs.Acting.{Safely, over_any, over_safe, close_turns, along_both}
+use Rattle.core_run.proofs.Left.{each_left}
 use Rattle.core_run.proofs.Nodes.{one_shards, later_through, closes_any, closes_safe}
 
 none_mapped : (buffers : List BufferState) → map book_buffer buffers ≡ [] → buffers ≡ []
@@ -125,14 +127,18 @@ module _ {D : Type 0} (E : Type 0) (view : D → DiskView) where
     says node later stands now =
         closed_so failed (faults_of view (disks_served olds)) (faults_of view (disks_served news)) later (closed_from 0 None failed count olds news node later through stands now)
 
+    closes_from : (node : Node) → StandsFor view (serving olds) node → ClosesFrom (StandsFor view) unknown false Says (serving olds) node (serving news)
+    closes_from node stands =
+        let here = subst (λ (s : List (ShardView D)). Each (StandsOn view) s node) (sym (one_shards olds stands.0 stands.1)) stands.2 in
+        let t = close_turns view (StandsOn view) (Made false (StandsOn view)) (over_any view) E (0, None) (count, failed) olds news node through here in
+        closes_any view olds news node t.0 t.1 Says t.2 (says node (node_after (events_of t.0) node) here (along_after false (StandsOn view) olds news node t.0 t.1))
+
     pub close_closes : Closes view failed (serving olds) (serving news)
     close_closes = record {
       later = later_through view (CloseTurn E view) (λ a old new b turn. turn.1.goes.later) (0, None) (count, failed) olds news through;
       sure = sure_through view (CloseTurn E view) (λ a old new b turn. turn.1.goes) (0, None) (count, failed) olds news through;
-      any = λ node stands.
-          let here = subst (λ (s : List (ShardView D)). Each (StandsOn view) s node) (sym (one_shards olds stands.0 stands.1)) stands.2 in
-          let t = close_turns view (StandsOn view) (Made false (StandsOn view)) (over_any view) E (0, None) (count, failed) olds news node through here in
-          closes_any view olds news node t.0 t.1 Says t.2 (says node (node_after (events_of t.0) node) here (along_after false (StandsOn view) olds news node t.0 t.1));
+      any = closes_from;
+      left = λ node stands. each_left false node (closes_from node stands).closing (closes_from node stands).legal;
       safe = λ node stands.
           let here = subst (λ (s : List (ShardView D)). Each (StandsSafelyOn view) s node) (sym (one_shards olds stands.0 stands.1)) stands.2 in
           let t = close_turns view (StandsSafelyOn view) (Safely view) (over_safe view is_disk) E (0, None) (count, failed) olds news node through here in

@@ -9,7 +9,7 @@ use Rattle.rec_format.specs.declared.entry.Counts.{Counts}
 use Rattle.rec_format.specs.Places.{device_number}
 use Rattle.model_device.specs.Device.{State, seen}
 use Rattle.model_device.specs.Book.{Setup}
-use Rattle.model_device.specs.Events.{Event, Call, put_call, get_call, delete_call, bury_call, after_events}
+use Rattle.model_device.specs.Events.{Event, Call, put_call, get_call, delete_call, bury_call, disk_fault, after_events}
 use Rattle.block_shelf.specs.View.{AreSure, records_of, gate_at}
 use Rattle.block_shelf.specs.Scans.{possible_copies}
 use Rattle.law_raid.specs.Exact.{RaidsExactly, RaidSpares, RaidLeavesNone}
@@ -21,10 +21,11 @@ use Rattle.line_proto.specs.declared.reply.Reply.{Reply}
 use Rattle.line_proto.specs.declared.reply.Reply.TheVariants as reply
 use Rattle.cold_scan.specs.declared.header.StartCause.{StartCause}
 use Rattle.model_device.specs.Vacating.{Outcome, did, stopped}
-use Rattle.model_node.specs.Commands.{Slot, Node, NodeEvent, Does, EachDevice, Raids, on_device, node_counts}
-use Rattle.model_node.specs.Commands.{answer_reply, meta_reply, seen_on, flushed_reply, defragged_reply, expired_reply, raided_reply}
-use Rattle.model_node.specs.Run.{ImagesLeft, Carries}
-use Rattle.model_node.specs.Meaning.{ActsFrom, left_between}
+use Rattle.model_node.specs.Commands.{Slot, Node, NodeEvent, node_after, Does, EachDevice, Raids, on_device, node_counts}
+use Rattle.model_node.specs.Commands.{answer_reply, meta_reply, seen_on, flushed_reply, healed_reply, defragged_reply, expired_reply, raided_reply}
+use Rattle.model_node.specs.Run.{ImagesLeft, Carries, node_or}
+use Rattle.model_node.proofs.Replied.{only_heal}
+use Rattle.model_node.specs.Meaning.{ActsFrom, TendsFrom, left_between}
 use Rattle.model_node.specs.Shown.{ShowsGet}
 use Rattle.shard_core.specs.View.{ShardView, setup_of}
 use Rattle.shard_core.specs.Stands.{Agrees}
@@ -33,24 +34,26 @@ use Rattle.shard_core.specs.declared.refusals.DefragCause.{DefragCause}
 use Rattle.shard_core.specs.declared.refusals.WriteRefusal.{WriteRefusal}
 use Rattle.core_run.specs.Views.{NodeView, serving, halted, disks_served, views_of, view_at, unknown, AreLater}
 use Rattle.core_run.specs.Standing.{Each, StandsOn, StandsSafelyOn, StandsFor, StandsSafely, Halts, HaltsSafely}
-use Rattle.core_run.specs.Shown.{RaidsOf, ShowsOn}
+use Rattle.core_run.specs.Shown.{HealsAll, RaidsOf, ShowsOn}
 use Rattle.node_replies.specs.Digests.{digest_of}
 use Rattle.core_run.specs.Calls.{RepliesStored, RaidedExactly, Acts, Tends}
-use Rattle.core_run.specs.Sure.{AreSureSince, StaySure}
-use Rattle.node_replies.specs.Outcomes.{IsFlushed}
+use Rattle.core_run.specs.Sure.{AreSureSince, StaySure, NoneBegun, AllSure}
+use Rattle.node_replies.specs.Outcomes.{IsFlushed, IsHealed}
 use Rattle.node_replies.specs.Through.{Through}
-use Rattle.core_run.specs.Turns.{GoesOn, GetsOn, RepliesTo, RepliesOn, TendTurn, WorksEach, plus_one, plus_both, FlushesOn, FlushesEach}
+use Rattle.core_run.specs.Turns.{GoesOn, GetsOn, RepliesTo, RepliesOn, TendTurn, WorksEach, plus_one, plus_both, FlushesOn, FlushesEach, HealsOn, HealsEach}
 use Rattle.node_replies.specs.Outcomes.{IsDefragged, IsExpired, IsRaided}
 use Rattle.core_run.specs.Turns.{DefragsOn, DefragsEach, ExpiresOn, ExpiresAll, RaidsOn, IsRaid, RaidsEach, slot_for}
 use Rattle.core_run.proofs.Places.{moved, events_of, slots_after, node_after_of, nones, no_events}
 use Rattle.core_run.proofs.Making.{Made, Along, slot_at, each_length, each_more, along_none}
-use Rattle.core_run.proofs.Acting.{Safely, over_any, over_safe, each_moved, event_turn, flush_turns, defrag_turns, expire_turns, raid_turns, tend_turns}
+use Rattle.core_run.proofs.Acting.{Safely, over_any, over_safe, each_moved, event_turn, flush_turns, heal_turns, defrag_turns, expire_turns, raid_turns, tend_turns}
 use Rattle.core_run.proofs.Sparing.{leaves_none}
 use Rattle.core_run.proofs.Taking.{device_leaves, device_takes}
 use Rattle.shard_core.proofs.Events.{runs_made}
 use Rattle.core_run.proofs.Surely.{sure_at, sure_through, sure_work}
-use Rattle.core_run.proofs.Replying.{known_goes_on, stat_goes_on, flushed_goes_on, defragged_goes_on, expired_goes_on, raided_goes_on, only_raid, one_digest}
+use Rattle.core_run.proofs.Replying.{known_goes_on, stat_goes_on, flushed_goes_on, healed_goes_on, defragged_goes_on, expired_goes_on, raided_goes_on, only_raid, one_digest}
+use Rattle.core_run.proofs.Healing.{none_begun_of, sure_since, heals_sure}
 use Rattle.core_run.proofs.Gets.{node_shows, only_get}
+use Rattle.core_run.proofs.Left.{each_left}
 use Rattle.core_run.proofs.Nodes.{GetShown, BothShown, one_shards, serves_or_halts, later_same, later_at, later_through, acts_any, acts_safe, tends_any, tends_safe}
 
 module _ {D : Type 0} (view : D → DiskView) (is_disk : (disk : D) → IsDisk (view disk)) where
@@ -61,6 +64,7 @@ module _ {D : Type 0} (view : D → DiskView) (is_disk : (disk : D) → IsDisk (
       (stored : RepliesStored view olds c now r)
       (exact : c ≡ command.Raid → (removed cleared : ℕ) → r ≡ reply.Raided removed cleared → (node : Node) → Each (StandsSafelyOn view) olds node
       → RaidedExactly view now olds node news removed cleared)
+      (healed : c ≡ command.Heal → (gates : ℕ) → r ≡ reply.Healed gates → NoneBegun olds → AllSure news)
       (any : (node : Node) → Each (StandsOn view) olds node → ActsFrom (StandsFor view) unknown (Halts view) (GetShown view c) false (serving olds) node c now r (serving news))
       (safe : (node : Node) → Each (StandsSafelyOn view) olds node
       → ActsFrom (StandsSafely view) (views_of view) (HaltsSafely view) (BothShown view c) true (serving olds) node c now r (serving news)) where
@@ -81,14 +85,26 @@ module _ {D : Type 0} (view : D → DiskView) (is_disk : (disk : D) → IsDisk (
         let get = only_get node now work r device event digest time is called c made.1 in shown get.0 get.1 device event digest time is called
     gets_of views told node work restarted (inr ends) shown = absurd (other ends.0)
 
+    -- the reply to a heal is that of one
+    heals_of : (views : NodeView D → ℕ → DiskView) (told : Bool) (node : Node) (work : List NodeEvent) (restarted : Option Node)
+        → Carries (left_between views (serving olds) (serving news)) told node c now work restarted r → Each (StandsOn view) olds node
+        → (r ≢ reply.Halted → StandsFor view (serving news) (node_or (node_after work node) restarted)) → HealsAll view node r work restarted (serving news)
+    heals_of views told node work restarted (inl made) stands after gates is none =
+        let shards = after (λ h. let e : reply.Healed gates ≡ reply.Halted = sym is ∙ h in cc) in
+        let all = healed (only_heal node c now work r gates made.1 is) gates is (none_begun_of view olds node stands none) in
+        let there = subst (λ (s : List (ShardView D)). Each (StandsOn view) s (node_or (node_after work node) restarted)) (sym (one_shards news shards.0 shards.1)) shards.2 in
+        sure_since view news (node_or (node_after work node) restarted) there all
+    heals_of views told node work restarted (inr ends) stands after gates is none = absurd (other ends.0)
+
     shows_of : (views : NodeView D → ℕ → DiskView) (told : Bool) (node : Node) (work : List NodeEvent) (restarted : Option Node)
-        → Carries (left_between views (serving olds) (serving news)) told node c now work restarted r → (r ≡ reply.Halted → ⊥)
+        → Carries (left_between views (serving olds) (serving news)) told node c now work restarted r → (r ≡ reply.Halted → ⊥) → HealsAll view node r work restarted (serving news)
         → (told ≡ true → RaidsOf view (serving olds) node now r work restarted (serving news)) → GetShown view c (serving olds) node now r work restarted (serving news)
         → ShowsOn view told (serving olds) node now r work restarted (serving news)
-    shows_of views told node work restarted carried goes raids gets = record {
+    shows_of views told node work restarted carried goes heals raids gets = record {
       again = λ fresh is. absurd (none_is fresh (sym (not_restarted views told node work restarted carried) ∙ is));
       refused = λ is. absurd (goes is);
       sure = λ fresh is. absurd (none_is fresh (sym (not_restarted views told node work restarted carried) ∙ is));
+      healed = heals;
       raided = raids;
       got = gets_of views told node work restarted carried gets;
     }
@@ -106,22 +122,29 @@ module _ {D : Type 0} (view : D → DiskView) (is_disk : (disk : D) → IsDisk (
     not_told : false ≡ true → ⊥
     not_told is = cc
 
+    plainly : (node : Node) → StandsSafely view (serving news) node → StandsFor view (serving news) node
+    plainly node stands = (stands.0, stands.1, each_more (StandsSafelyOn view) (StandsOn view) (λ shard slot s. s.stands) stands.0 node stands.2)
+
+    acts_from : (node : Node) → StandsFor view (serving olds) node → ActsFrom (StandsFor view) unknown (Halts view) (ShowsOn view false) false (serving olds) node c now r (serving news)
+    acts_from node stands =
+        let here = subst (λ (s : List (ShardView D)). Each (StandsOn view) s node) (sym (one_shards olds stands.0 stands.1)) stands.2 in
+        let a = any node here in
+        record {
+          work = a.work;
+          restarted = a.restarted;
+          carried = a.carried;
+          legal = a.legal;
+          stands = a.stands;
+          leaves = a.leaves;
+          halt = a.halt;
+          shows = shows_of unknown false node a.work a.restarted a.carried (λ is. halts_never node _ (a.halt is))
+              (heals_of unknown false node a.work a.restarted a.carried here a.stands) (λ is. absurd (not_told is)) a.shows;
+        }
+
     pub acts_serving : Acts view (serving olds) c now r (serving news)
     acts_serving = record {
       later = later;
-      any = λ node stands.
-          let here = subst (λ (s : List (ShardView D)). Each (StandsOn view) s node) (sym (one_shards olds stands.0 stands.1)) stands.2 in
-          let a = any node here in
-          record {
-            work = a.work;
-            restarted = a.restarted;
-            carried = a.carried;
-            legal = a.legal;
-            stands = a.stands;
-            leaves = a.leaves;
-            halt = a.halt;
-            shows = shows_of unknown false node a.work a.restarted a.carried (λ is. halts_never node _ (a.halt is)) (λ is. absurd (not_told is)) a.shows;
-          };
+      any = acts_from;
       safe = λ node stands.
           let here = subst (λ (s : List (ShardView D)). Each (StandsSafelyOn view) s node) (sym (one_shards olds stands.0 stands.1)) stands.2 in
           let a = safe node here in
@@ -133,7 +156,9 @@ module _ {D : Type 0} (view : D → DiskView) (is_disk : (disk : D) → IsDisk (
             stands = a.stands;
             leaves = a.leaves;
             halt = a.halt;
-            shows = shows_of (views_of view) true node a.work a.restarted a.carried (λ is. halts_never node _ (a.halt is).halts) (λ is. raids_of node a.work a.restarted a.carried a.shows.0) a.shows.1;
+            shows = shows_of (views_of view) true node a.work a.restarted a.carried (λ is. halts_never node _ (a.halt is).halts)
+                (heals_of (views_of view) true node a.work a.restarted a.carried (each_more (StandsSafelyOn view) (StandsOn view) (λ shard slot s. s.stands) olds node here) (λ goes. plainly (node_or (node_after a.work node) a.restarted) (a.stands goes)))
+                (λ is. raids_of node a.work a.restarted a.carried a.shows.0) a.shows.1;
           };
       stored = λ shards same. subst (λ (s : List (ShardView D)). RepliesStored view s c now r) (one_shards olds shards same) stored;
       again = λ shards same is. absurd (other is);
@@ -143,7 +168,10 @@ module _ {D : Type 0} (view : D → DiskView) (is_disk : (disk : D) → IsDisk (
           subst (λ (x : List (ShardView D)). RaidedExactly view now x node after removed cleared) one
           (subst (λ (x : List (ShardView D)). RaidedExactly view now olds node x removed cleared) two
           (exact is removed cleared told node (subst (λ (x : List (ShardView D)). Each (StandsSafelyOn view) x node) (sym one) stands)));
+      healed = λ before after same then is gates told none.
+          subst (λ (x : List (ShardView D)). AllSure x) (one_shards news after then) (healed is gates told (subst (λ (x : List (ShardView D)). NoneBegun x) (sym (one_shards olds before same)) none));
       sure = sure;
+      left = λ node stands. each_left false node (acts_from node stands).work (acts_from node stands).legal;
       stays = λ why disks same. absurd (serves_or_halts olds why disks same);
     }
 
@@ -159,7 +187,7 @@ module _ {D : Type 0} (view : D → DiskView) (is_disk : (disk : D) → IsDisk (
     later : AreLater view (disks_served olds) (disks_served News)
     later = later_at view is_disk olds Place old new at goes.later
 
-    module _ (call : Call) (c : Command) (now : ℕ) (r : Reply) (replies : RepliesTo view call old r new) (other : c ≢ command.Restart) (none : c ≢ command.Raid)
+    module _ (call : Call) (c : Command) (now : ℕ) (r : Reply) (replies : RepliesTo view call old r new) (other : c ≢ command.Restart) (none : c ≢ command.Raid) (unhealed : c ≢ command.Heal)
         (stored : RepliesStored view olds c now r)
         (gets : (node : Node) → Each (StandsOn view) olds node → (event : Event) (work : List NodeEvent) → event.call ≡ call → event.answer ≡ replies.0 → work ≡ on_device Place event ∷ []
         → GetShown view c (serving olds) node now r work None (serving News))
@@ -187,7 +215,7 @@ module _ {D : Type 0} (view : D → DiskView) (is_disk : (disk : D) → IsDisk (
           )
 
       event_acts : Acts view (serving olds) c now r (serving News)
-      event_acts = acts_serving olds News c now r later (sure_at view olds Place old new at goes) other stored (λ is. absurd (none is)) from_any from_safe
+      event_acts = acts_serving olds News c now r later (sure_at view olds Place old new at goes) other stored (λ is. absurd (none is)) (λ is. absurd (unhealed is)) from_any from_safe
 
     -- what is known of a record
     module _ (now : ℕ) (r : Reply) (same : new ≡ old) (knows : (s : State) → Agrees old s → r ≡ meta_reply (seen s now digest)) where
@@ -222,7 +250,7 @@ module _ {D : Type 0} (view : D → DiskView) (is_disk : (disk : D) → IsDisk (
 
       meta_acts : Acts view (serving olds) (command.Meta digest) now r (serving News)
       meta_acts = subst (λ (s : List (ShardView D)). Acts view (serving olds) (command.Meta digest) now r (serving s)) (sym news_same)
-          (acts_serving olds olds (command.Meta digest) now r (later_same view is_disk (disks_served olds)) (λ counts sure. sure) (λ is. cc) tt (λ is. absurd cc) know_any know_safe)
+          (acts_serving olds olds (command.Meta digest) now r (later_same view is_disk (disks_served olds)) (λ counts sure. sure) (λ is. cc) tt (λ is. absurd cc) (λ is. absurd cc) know_any know_safe)
 
     by_command : (c : Command) (now : ℕ) (r : Reply) → digest_of c ≡ Some digest → RepliesOn view old c now r new → Acts view (serving olds) c now r (serving News)
     by_command (command.Put d ttl expect payload) now r on replies =
@@ -230,12 +258,12 @@ module _ {D : Type 0} (view : D → DiskView) (is_disk : (disk : D) → IsDisk (
         subst (λ (x : Digest). Acts view (serving olds) (command.Put x ttl expect payload) now r (serving News)) (sym same)
         (event_acts (put_call digest ttl expect payload now) (command.Put digest ttl expect payload) now r
         (subst (λ (x : Digest). RepliesTo view (put_call x ttl expect payload now) old r new) same replies)
-        (λ is. cc) (λ is. cc) tt (λ node stands event work is_call given made d get. cc) (λ node event work at is_call given. (event, at, is_call, given)))
+        (λ is. cc) (λ is. cc) (λ is. cc) tt (λ node stands event work is_call given made d get. cc) (λ node event work at is_call given. (event, at, is_call, given)))
     by_command (command.Get d) now r on replies =
         let same : d ≡ digest = one_digest d digest on in
         let mine : GetsOn view old digest now r new = subst (λ (x : Digest). RepliesOn view old (command.Get x) now r new) same replies in
         subst (λ (x : Digest). Acts view (serving olds) (command.Get x) now r (serving News)) (sym same)
-        (event_acts (get_call digest now) (command.Get digest) now r (read_answer mine.got, mine.reply_is, mine.goes_on, mine.makes) (λ is. cc) (λ is. cc)
+        (event_acts (get_call digest now) (command.Get digest) now r (read_answer mine.got, mine.reply_is, mine.goes_on, mine.makes) (λ is. cc) (λ is. cc) (λ is. cc)
         (mine.got, mine.reply_is, subst (λ (o : Option (ShardView D)). MatchOption o ⊥ (λ shard. GetsStored view shard digest now mine.got)) (sym at) mine.stored)
         (λ node stands event work is_call given made d get. node_shows view olds Place old at node stands mine.whole.0 mine.whole.1 digest mine.own now mine.got mine.stored
         event work is_call given made)
@@ -248,13 +276,14 @@ module _ {D : Type 0} (view : D → DiskView) (is_disk : (disk : D) → IsDisk (
         let same : d ≡ digest = one_digest d digest on in
         subst (λ (x : Digest). Acts view (serving olds) (command.Del x) now r (serving News)) (sym same)
         (event_acts (delete_call digest now) (command.Del digest) now r (subst (λ (x : Digest). RepliesTo view (delete_call x now) old r new) same replies)
-        (λ is. cc) (λ is. cc) tt (λ node stands event work is_call given made d get. cc) (λ node event work at is_call given. (event, at, is_call, given)))
+        (λ is. cc) (λ is. cc) (λ is. cc) tt (λ node stands event work is_call given made d get. cc) (λ node event work at is_call given. (event, at, is_call, given)))
     by_command (command.Bury d) now r on replies =
         let same : d ≡ digest = one_digest d digest on in
         subst (λ (x : Digest). Acts view (serving olds) (command.Bury x) now r (serving News)) (sym same)
         (event_acts (bury_call digest now) (command.Bury digest) now r (subst (λ (x : Digest). RepliesTo view (bury_call x now) old r new) same replies)
-        (λ is. cc) (λ is. cc) tt (λ node stands event work is_call given made d get. cc) (λ node event work at is_call given. (event, at, is_call, given)))
+        (λ is. cc) (λ is. cc) (λ is. cc) tt (λ node stands event work is_call given made d get. cc) (λ node event work at is_call given. (event, at, is_call, given)))
     by_command command.Flush now r on replies = cc
+    by_command command.Heal now r on replies = cc
     by_command command.Defrag now r on replies = cc
     by_command command.Expire now r on replies = cc
     by_command command.Raid now r on replies = cc
@@ -286,7 +315,7 @@ module _ {D : Type 0} (view : D → DiskView) (is_disk : (disk : D) → IsDisk (
       → ((outcome : Outcome) → IsFlushed flushed outcome → r ≡ flushed_reply outcome) → Acts view (serving olds) command.Flush now r (serving news)
   flush_acts {E} flushed olds news now r each is =
       acts_serving olds news command.Flush now r (work_later (FlushesOn {E = E} view) plus_one (λ result old new does. does.goes) flushed 0 olds news each)
-      (sure_work view (FlushesOn {E = E} view) plus_one (λ result old new does. does.goes) flushed 0 olds news each) (λ e. cc) tt (λ e. absurd cc)
+      (sure_work view (FlushesOn {E = E} view) plus_one (λ result old new does. does.goes) flushed 0 olds news each) (λ e. cc) tt (λ e. absurd cc) (λ e. absurd cc)
       (λ node stands.
       let t = flush_turns view (StandsOn view) (Made false (StandsOn view)) (over_any view) flushed olds news node each stands in
       acts_any view olds news node t.0 t.1 command.Flush now r (t.2.0, t.2.2, is t.2.0 t.2.1) (λ h. flushed_goes_on t.2.0 (sym (is t.2.0 t.2.1) ∙ h)) (λ d get. cc))
@@ -294,11 +323,30 @@ module _ {D : Type 0} (view : D → DiskView) (is_disk : (disk : D) → IsDisk (
       let t = flush_turns view (StandsSafelyOn view) (Safely view) (over_safe view is_disk) flushed olds news node each stands in
       acts_safe view olds news node t.0 t.1 command.Flush now r (t.2.0, t.2.2, is t.2.0 t.2.1) (λ h. flushed_goes_on t.2.0 (sym (is t.2.0 t.2.1) ∙ h)) ((λ raid. cc), (λ d get. cc)))
 
+  -- behind one that isn't refused no gate is unsure, where no gate's write had begun
+  heal_known : {E : Type 0} (healed : Result ℕ E) (olds news : List (ShardView D)) (r : Reply) → HealsEach view healed olds news
+      → ((outcome : Outcome) → IsHealed healed outcome → r ≡ healed_reply outcome) → (gates : ℕ) → r ≡ reply.Healed gates → NoneBegun olds → AllSure news
+  heal_known {E} (Ok n) olds news r each is gates told none = heals_sure view E n 0 olds news each none
+  heal_known (Err fault) olds news r each is gates told none = let e : healed_reply (stopped disk_fault) ≡ reply.Healed gates = sym (is (stopped disk_fault) (disk_fault, refl, refl)) ∙ told in absurd cc
+
+  pub heal_acts : {E : Type 0} (healed : Result ℕ E) (olds news : List (ShardView D)) (now : ℕ) (r : Reply) → HealsEach view healed olds news
+      → ((outcome : Outcome) → IsHealed healed outcome → r ≡ healed_reply outcome) → Acts view (serving olds) command.Heal now r (serving news)
+  heal_acts {E} healed olds news now r each is =
+      acts_serving olds news command.Heal now r (work_later (HealsOn {E = E} view) plus_one (λ result old new does. does.goes) healed 0 olds news each)
+      (sure_work view (HealsOn {E = E} view) plus_one (λ result old new does. does.goes) healed 0 olds news each) (λ e. cc) tt (λ e. absurd cc)
+      (λ e. heal_known healed olds news r each is)
+      (λ node stands.
+      let t = heal_turns view (StandsOn view) (Made false (StandsOn view)) (over_any view) healed olds news node each stands in
+      acts_any view olds news node t.0 t.1 command.Heal now r (t.2.0, t.2.2, is t.2.0 t.2.1) (λ h. healed_goes_on t.2.0 (sym (is t.2.0 t.2.1) ∙ h)) (λ d get. cc))
+      (λ node stands.
+      let t = heal_turns view (StandsSafelyOn view) (Safely view) (over_safe view is_disk) healed olds news node each stands in
+      acts_safe view olds news node t.0 t.1 command.Heal now r (t.2.0, t.2.2, is t.2.0 t.2.1) (λ h. healed_goes_on t.2.0 (sym (is t.2.0 t.2.1) ∙ h)) ((λ raid. cc), (λ d get. cc)))
+
   pub defrag_acts : (result : Result (ℕ × ℕ) DefragCause) (olds news : List (ShardView D)) (now : ℕ) (r : Reply) → DefragsEach view result olds news
       → ((outcome : Outcome) → IsDefragged result outcome → r ≡ defragged_reply outcome) → Acts view (serving olds) command.Defrag now r (serving news)
   defrag_acts result olds news now r each is =
       acts_serving olds news command.Defrag now r (work_later (DefragsOn view) plus_both (λ done old new does. does.goes) result (0, 0) olds news each)
-      (sure_work view (DefragsOn view) plus_both (λ done old new does. does.goes) result (0, 0) olds news each) (λ e. cc) tt (λ e. absurd cc)
+      (sure_work view (DefragsOn view) plus_both (λ done old new does. does.goes) result (0, 0) olds news each) (λ e. cc) tt (λ e. absurd cc) (λ e. absurd cc)
       (λ node stands.
       let t = defrag_turns view (StandsOn view) (Made false (StandsOn view)) (over_any view) result olds news node each stands in
       acts_any view olds news node t.0 t.1 command.Defrag now r (t.2.0, t.2.2, is t.2.0 t.2.1) (λ h. defragged_goes_on t.2.0 (sym (is t.2.0 t.2.1) ∙ h)) (λ d get. cc))
@@ -310,7 +358,7 @@ module _ {D : Type 0} (view : D → DiskView) (is_disk : (disk : D) → IsDisk (
       → ((outcome : Outcome) → IsExpired result outcome → r ≡ expired_reply outcome) → Acts view (serving olds) command.Expire now r (serving news)
   expire_acts result olds news now r each is =
       acts_serving olds news command.Expire now r (work_later (ExpiresOn view now) plus_one (λ done old new does. does.goes) result 0 olds news each)
-      (sure_work view (ExpiresOn view now) plus_one (λ done old new does. does.goes) result 0 olds news each) (λ e. cc) tt (λ e. absurd cc)
+      (sure_work view (ExpiresOn view now) plus_one (λ done old new does. does.goes) result 0 olds news each) (λ e. cc) tt (λ e. absurd cc) (λ e. absurd cc)
       (λ node stands.
       let t = expire_turns view (StandsOn view) (Made false (StandsOn view)) (over_any view) now result olds news node each stands in
       acts_any view olds news node t.0 t.1 command.Expire now r (t.2.0, t.2.2, is t.2.0 t.2.1) (λ h. expired_goes_on t.2.0 (sym (is t.2.0 t.2.1) ∙ h)) (λ d get. cc))
@@ -472,7 +520,7 @@ module _ {D : Type 0} (view : D → DiskView) (is_disk : (disk : D) → IsDisk (
   raid_acts result olds news now r each is =
       acts_serving olds news command.Raid now r (work_later (RaidsOn view now) plus_both (λ done old new does. does.goes) result (0, 0) olds news each)
       (sure_work view (RaidsOn view now) plus_both (λ done old new does. does.goes) result (0, 0) olds news each) (λ e. cc) tt
-      (λ e. raid_exact_each result olds news now r each is)
+      (λ e. raid_exact_each result olds news now r each is) (λ e. absurd cc)
       (λ node stands.
       let t = raid_turns view (StandsOn view) (Made false (StandsOn view)) (over_any view) now result olds news node each stands in
       acts_any view olds news node t.0 t.1 command.Raid now r (t.2.0, t.2.2, is t.2.0 t.2.1) (λ h. raided_goes_on t.2.0 (sym (is t.2.0 t.2.1) ∙ h)) (λ d get. cc))
@@ -483,7 +531,7 @@ module _ {D : Type 0} (view : D → DiskView) (is_disk : (disk : D) → IsDisk (
   pub stat_acts : (olds : List (ShardView D)) (now : ℕ) (counts : Counts) → ((node : Node) → Each (StandsOn view) olds node → counts ≡ node_counts node)
       → Acts view (serving olds) command.Stat now (reply.StatOf counts) (serving olds)
   stat_acts olds now counts told =
-      acts_serving olds olds command.Stat now (reply.StatOf counts) (later_same view is_disk (disks_served olds)) (λ counts sure. sure) (λ e. cc) tt (λ e. absurd cc)
+      acts_serving olds olds command.Stat now (reply.StatOf counts) (later_same view is_disk (disks_served olds)) (λ counts sure. sure) (λ e. cc) tt (λ e. absurd cc) (λ e. absurd cc)
       (λ node stands.
       acts_any view olds olds node (nones (length olds)) (along_none (Made false (StandsOn view)) (StandsOn view) (over_any view).rests olds node stands) command.Stat now (reply.StatOf counts)
       (no_events (length olds), ap reply.StatOf (told node stands)) (stat_goes_on counts) (λ d get. cc))
@@ -494,12 +542,18 @@ module _ {D : Type 0} (view : D → DiskView) (is_disk : (disk : D) → IsDisk (
 
   -- ---- tending
 
+  tends_from : {A : Type 0} (a b : A) (olds news : List (ShardView D)) → Through (TendTurn view) (length olds) a olds news b → (node : Node) → StandsFor view (serving olds) node
+      → TendsFrom (StandsFor view) unknown false (serving olds) node (serving news)
+  tends_from {A} a b olds news through node stands =
+      let here = subst (λ (s : List (ShardView D)). Each (StandsOn view) s node) (sym (one_shards olds stands.0 stands.1)) stands.2 in
+      let t = tend_turns view (StandsOn view) (Made false (StandsOn view)) (over_any view) a b olds news node through here in
+      tends_any view olds news node t.0 t.1 t.2
+
   pub tend_tends : {A : Type 0} (a b : A) (olds news : List (ShardView D)) → Through (TendTurn view) (length olds) a olds news b → Tends view (serving olds) (serving news)
   tend_tends {A} a b olds news through = record {
     later = later_through view (TendTurn {A = A} view) (λ x old new y turn. turn.goes.later) a b olds news through;
-    any = λ node stands.
-        let here = subst (λ (s : List (ShardView D)). Each (StandsOn view) s node) (sym (one_shards olds stands.0 stands.1)) stands.2 in
-        let t = tend_turns view (StandsOn view) (Made false (StandsOn view)) (over_any view) a b olds news node through here in tends_any view olds news node t.0 t.1 t.2;
+    any = tends_from a b olds news through;
+    left = λ node stands. each_left false node (tends_from a b olds news through node stands).tended (tends_from a b olds news through node stands).legal;
     safe = λ node stands.
         let here = subst (λ (s : List (ShardView D)). Each (StandsSafelyOn view) s node) (sym (one_shards olds stands.0 stands.1)) stands.2 in
         let t = tend_turns view (StandsSafelyOn view) (Safely view) (over_safe view is_disk) a b olds news node through here in tends_safe view olds news node t.0 t.1 t.2;
@@ -517,7 +571,9 @@ module _ {D : Type 0} (view : D → DiskView) (is_disk : (disk : D) → IsDisk (
     stored = λ shards same. absurd (serves_or_halts shards why disks (sym same));
     again = λ shards same is. absurd (serves_or_halts shards why disks (sym same));
     exact = λ before after same then is removed cleared told. absurd (serves_or_halts before why disks (sym same));
+    healed = λ before after same then is gates told none. absurd (serves_or_halts before why disks (sym same));
     sure = λ counts sure. sure;
+    left = λ node stands. absurd (serves_or_halts stands.0 why disks (sym stands.1));
     stays = λ other kept same. (refl, refl);
   }
 
@@ -527,5 +583,6 @@ module _ {D : Type 0} (view : D → DiskView) (is_disk : (disk : D) → IsDisk (
     any = λ node stands. absurd (serves_or_halts stands.0 why disks (sym stands.1));
     safe = λ node stands. absurd (serves_or_halts stands.0 why disks (sym stands.1));
     sure = λ counts sure. sure;
+    left = λ node stands. absurd (serves_or_halts stands.0 why disks (sym stands.1));
     stays = λ other kept same. refl;
   }

@@ -36,7 +36,7 @@ use Rattle.model_node.specs.Headline.{On}
 use Rattle.model_node.specs.Shown.{GivesCopy, GivesBytes, GetShows, ShowsGet}
 use Rattle.model_node.proofs.Expiries.{if_refused}
 use Rattle.law_commit.proofs.Unwriting.{IsUnwriting}
-use Rattle.model_node.proofs.Unwritten.{all_worked, all_flushes, all_defrags, all_raids}
+use Rattle.model_node.proofs.Unwritten.{all_worked, all_flushes, all_heals, all_defrags, all_raids}
 use Rattle.core_run.specs.Views.{serving, disks_served, view_at, views_of}
 use Rattle.core_run.specs.Standing.{Each, StandsOn}
 use Rattle.core_run.proofs.Making.{slot_at}
@@ -186,6 +186,7 @@ module _ (node : Node) (now : ℕ) (work : List NodeEvent) (r : Reply) (device :
   only_get (command.Del d) does = absurd (other_event d (delete_call d now) (λ is. cc) does)
   only_get (command.Bury d) does = absurd (other_event d (bury_call d now) (λ is. cc) does)
   only_get command.Flush does = absurd (unwriting_among (all_flushes node work does.0 does.1))
+  only_get command.Heal does = absurd (unwriting_among (all_heals node work does.0 does.1))
   only_get command.Defrag does = absurd (unwriting_among (all_defrags node work does.0 does.1))
   only_get command.Expire does = absurd (none_among (all_worked IsNoGet (Expires now)
       (λ slot events outcome expires. expires_not now (expired_entries slot.setup now slot.state) 0 events outcome expires) 0 node 0 0 work does.0 does.1))

@@ -13,6 +13,8 @@ pub mod Replying
 pub mod Surely
 pub mod Gets
 pub mod Nodes
+pub mod Healing
+pub mod Left
 pub mod Commands
 pub mod Keeping
 pub mod Closing

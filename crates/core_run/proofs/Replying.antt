@@ -16,7 +16,7 @@ use Rattle.line_proto.specs.declared.reply.Reply.{Reply}
 use Rattle.line_proto.specs.declared.reply.Reply.TheVariants as reply
 use Rattle.model_device.specs.Events.{Answer, stamp_given, happened, found_version, counted, block_chosen, raid_numbered, marks_made, block_scanned, marks_undone, part_ended, raid_over, refused}
 use Rattle.model_device.specs.Vacating.{Outcome, did, stopped}
-use Rattle.model_node.specs.Commands.{Node, NodeEvent, Does, node_counts, answer_reply, meta_reply, flushed_reply, defragged_reply, expired_reply, raided_reply}
+use Rattle.model_node.specs.Commands.{Node, NodeEvent, Does, node_counts, answer_reply, meta_reply, flushed_reply, healed_reply, defragged_reply, expired_reply, raided_reply}
 
 -- ---- no reply halts
 
@@ -62,6 +62,10 @@ pub flushed_goes_on : (outcome : Outcome) → flushed_reply outcome ≡ reply.Ha
 flushed_goes_on (did a b) e = cc
 flushed_goes_on (stopped cause) e = cc
 
+pub healed_goes_on : (outcome : Outcome) → healed_reply outcome ≡ reply.Halted → ⊥
+healed_goes_on (did a b) e = cc
+healed_goes_on (stopped cause) e = cc
+
 pub defragged_goes_on : (outcome : Outcome) → defragged_reply outcome ≡ reply.Halted → ⊥
 defragged_goes_on (did a b) e = cc
 defragged_goes_on (stopped cause) e = cc
@@ -100,6 +104,10 @@ flushed_no_raid : (outcome : Outcome) (a b : ℕ) → flushed_reply outcome ≡ 
 flushed_no_raid (did x y) a b e = cc
 flushed_no_raid (stopped cause) a b e = cc
 
+healed_no_raid : (outcome : Outcome) (a b : ℕ) → healed_reply outcome ≡ reply.Raided a b → ⊥
+healed_no_raid (did x y) a b e = cc
+healed_no_raid (stopped cause) a b e = cc
+
 defragged_no_raid : (outcome : Outcome) (a b : ℕ) → defragged_reply outcome ≡ reply.Raided a b → ⊥
 defragged_no_raid (did x y) a b e = cc
 defragged_no_raid (stopped cause) a b e = cc
@@ -115,6 +123,7 @@ only_raid node (command.Meta digest) now work r a b does is = absurd (known_no_r
 only_raid node (command.Del digest) now work r a b does is = absurd (answer_no_raid does.0.answer a b (sym does.3 ∙ is))
 only_raid node (command.Bury digest) now work r a b does is = absurd (answer_no_raid does.0.answer a b (sym does.3 ∙ is))
 only_raid node command.Flush now work r a b does is = absurd (flushed_no_raid does.0 a b (sym does.2 ∙ is))
+only_raid node command.Heal now work r a b does is = absurd (healed_no_raid does.0 a b (sym does.2 ∙ is))
 only_raid node command.Defrag now work r a b does is = absurd (defragged_no_raid does.0 a b (sym does.2 ∙ is))
 only_raid node command.Expire now work r a b does is = absurd (expired_no_raid does.0 a b (sym does.2 ∙ is))
 only_raid node command.Raid now work r a b does is = refl

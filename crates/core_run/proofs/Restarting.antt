@@ -181,6 +181,7 @@ module _ {D : Type 0} (view : D → DiskView) (set : Settings) where
         sure = λ new is.
             let one : after ≡ new = cc in
             subst (λ (n : Node). AreSureSince view (counts_of n) fresh) one (sure_now view set 0 (length olds) (disks_served olds) fresh after starts stands);
+        healed = λ gates is. cc;
         raided = λ is removed cleared other. cc;
         got = λ device event digest time is. cc;
       }
@@ -219,6 +220,7 @@ module _ {D : Type 0} (view : D → DiskView) (set : Settings) where
           }
 
       pub restart_done : Acts view (serving olds) command.Restart now (reply.Restarted counts.records counts.tombstones) (serving fresh)
+      unfolding any
       restart_done = record {
         later = read_later view (disks_served olds) (disks_served fresh) read;
         any = λ node stands. any node (subst (λ (s : List (ShardView D)). Each (StandsOn view) s node) (sym (one_shards olds stands.0 stands.1)) stands.2);
@@ -226,7 +228,9 @@ module _ {D : Type 0} (view : D → DiskView) (set : Settings) where
         stored = λ shards same. tt;
         again = λ shards same is. (set, subst (λ (s : List (ShardView D)). Restarted view set s (serving fresh)) (one_shards olds shards same) (inl (fresh, refl, starts)));
         exact = λ before after same then is. absurd cc;
+        healed = λ before after same then is. absurd cc;
         sure = sure_again view set 0 (length olds) olds fresh starts;
+        left = λ node stands. tt;
         stays = λ why disks same. absurd (serves_or_halts olds why disks same);
       }
 
@@ -263,6 +267,7 @@ module _ {D : Type 0} (view : D → DiskView) (set : Settings) where
           subst (λ (n : ℕ). RefusesAt view set reason.0 0 n reason.1 (disks_served olds) disks) (sym many) refuses,
         );
         sure = λ fresh is. tt;
+        healed = λ gates is. cc;
         raided = λ is removed cleared other. cc;
         got = λ device event digest time is. cc;
       }
@@ -302,6 +307,7 @@ module _ {D : Type 0} (view : D → DiskView) (set : Settings) where
           }
 
       pub restart_refused : Acts view (serving olds) command.Restart now reply.Halted (halted reason disks)
+      unfolding any_refused
       restart_refused = record {
         later = read_later view (disks_served olds) disks read_all;
         any = λ node stands. any_refused node (subst (λ (s : List (ShardView D)). Each (StandsOn view) s node) (sym (one_shards olds stands.0 stands.1)) stands.2);
@@ -309,6 +315,8 @@ module _ {D : Type 0} (view : D → DiskView) (set : Settings) where
         stored = λ shards same. tt;
         again = λ shards same is. (set, subst (λ (s : List (ShardView D)). Restarted view set s (halted reason disks)) (one_shards olds shards same) (inr (reason, disks, refl, refuses)));
         exact = λ before after same then is. absurd cc;
+        healed = λ before after same then is. absurd cc;
         sure = λ counts sure. tt;
+        left = λ node stands. tt;
         stays = λ why kept same. absurd (serves_or_halts olds why kept same);
       }

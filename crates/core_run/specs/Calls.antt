@@ -21,9 +21,10 @@ use Rattle.model_node.specs.Outside.{RoseOn}
 use Rattle.model_node.specs.RunEnd.{IsQuiet, AllQuiet}
 use Rattle.model_node.specs.Meaning.{ActsBy, TendsBy, ClosesBy}
 use Rattle.core_run.specs.Views.{NodeView, serving, halted, disks_served, disks_of, views_of, unknown, faults_of, AreLater}
-use Rattle.core_run.specs.Sure.{StaySure}
+use Rattle.core_run.specs.Sure.{StaySure, NoneBegun, AllSure}
 use Rattle.core_run.specs.Starts.{StartsEach, RefusesAt}
 use Rattle.core_run.specs.Shown.{ShowsOn}
+use Rattle.core_run.specs.Leaving.{EachLeavesOn}
 use Rattle.law_raid.specs.Exact.{RaidsExactly, RaidSpares, RaidLeavesNone}
 use Rattle.core_run.specs.Standing.{Each, StandsSafelyOn, StandsFor, StandsSafely, Halts, HaltsSafely}
 
@@ -60,7 +61,9 @@ RaidedExactly view now (old ∷ olds) (slot ∷ node) (new ∷ news) removed cle
 -- honest ones, with what a crash leaves meanwhile. A get is replied as its record is stored. A restart goes to a state behind a start of
 -- each device from its disk, or one is refused, and then the node halts; in both it shows what each disk tells of its bytes. A raid that isn't
 -- refused spares what it has to and is exact, over honest disks whose images were sound. No gate becomes unsure of a device whose count of faults
--- doesn't rise, and none is unsure behind a restart. A node that halted answers so from then on, and does nothing.
+-- doesn't rise, and none is unsure behind a restart, or behind a heal that isn't refused, where no gate's write had begun. What is refused
+-- leaves its device as it was, but for what `left` names; what was done before it stands. A node that halted answers so from then on, and does
+-- nothing.
 pub record Acts {D : Type 0} (view : D → DiskView) (old : NodeView D) (c : Command) (now : ℕ) (r : Reply) (new : NodeView D) : Type 0 where
   pub later : AreLater view (disks_of old) (disks_of new)
   pub any : ActsBy (StandsFor view) unknown (Halts view) (ShowsOn view false) false old c now r new
@@ -69,7 +72,9 @@ pub record Acts {D : Type 0} (view : D → DiskView) (old : NodeView D) (c : Com
   pub again : (shards : List (ShardView D)) → old ≡ serving shards → c ≡ command.Restart → (set : Settings) × Restarted view set shards new
   pub exact : (olds news : List (ShardView D)) → old ≡ serving olds → new ≡ serving news → c ≡ command.Raid → (removed cleared : ℕ) → r ≡ reply.Raided removed cleared → (node : Node) → Each (StandsSafelyOn view) olds node
       → RaidedExactly view now olds node news removed cleared
+  pub healed : (olds news : List (ShardView D)) → old ≡ serving olds → new ≡ serving news → c ≡ command.Heal → (gates : ℕ) → r ≡ reply.Healed gates → NoneBegun olds → AllSure news
   pub sure : StaySure view old new
+  pub left : (node : Node) (stands : StandsFor view old node) → EachLeavesOn node (any node stands).work
   pub stays : (why : ℕ × StartCause) (disks : List D) → old ≡ halted why disks → (r ≡ reply.Halted) × (new ≡ old)
 
 pub record Tends {D : Type 0} (view : D → DiskView) (old new : NodeView D) : Type 0 where
@@ -77,6 +82,7 @@ pub record Tends {D : Type 0} (view : D → DiskView) (old new : NodeView D) : T
   pub any : TendsBy (StandsFor view) unknown false old new
   pub safe : TendsBy (StandsSafely view) (views_of view) true old new
   pub sure : StaySure view old new
+  pub left : (node : Node) (stands : StandsFor view old node) → EachLeavesOn node (any node stands).tended
   pub stays : (why : ℕ × StartCause) (disks : List D) → old ≡ halted why disks → new ≡ old
 
 -- ---- the end of a run
@@ -93,3 +99,4 @@ pub record Closes {D : Type 0} (view : D → DiskView) (failed : Option ℕ) (ol
   pub any : ClosesBy (StandsFor view) unknown false (ClosedSo failed (faults_of view (disks_of old)) (faults_of view (disks_of new))) old new
   pub safe : ClosesBy (StandsSafely view) (views_of view) true (ClosedSo failed (faults_of view (disks_of old)) (faults_of view (disks_of new))) old new
   pub sure : StaySure view old new
+  pub left : (node : Node) (stands : StandsFor view old node) → EachLeavesOn node (any node stands).closing

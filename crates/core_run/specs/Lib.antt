@@ -2,6 +2,7 @@ pub mod Views
 pub mod Sure
 pub mod Starts
 pub mod Shown
+pub mod Leaving
 pub mod Standing
 pub mod Calls
 pub mod Turns

@@ -1,12 +1,13 @@
 -- Crate core_run. What a call of one device makes, and what a loop over all devices makes, turn by turn.
-use Rattle.std.specs.Prelude.{◌≡◌, ◌≢◌, ℕ, ◌+◌, List, [], ◌∷◌, length, Option, Some, None, Result, Ok, Err, OnOk, OnErr, ◌⊎◌}
+use Rattle.std.specs.Prelude.{◌≡◌, ◌≢◌, ℕ, ◌+◌, false, List, [], ◌∷◌, length, Option, Some, None, Result, Ok, Err, OnOk, OnErr, ◌⊎◌}
+use Rattle.std.specs.List.{AllByRecursion}
 use Rattle.disk_model.specs.Disk.{DiskView, IsHonest}
 use Rattle.model_device.specs.Device.{State, seen}
-use Rattle.model_device.specs.Events.{Call, put_call, get_call, delete_call, bury_call, flush_call, Answer, Event, after_events}
+use Rattle.model_device.specs.Events.{Call, put_call, get_call, delete_call, bury_call, flush_call, heal_call, Answer, Event, after_events}
 use Rattle.model_device.specs.Vacating.{Outcome, VacatesUpTo, Tends}
 use Rattle.model_device.specs.Expiring.{ExpiresEach}
 use Rattle.block_shelf.specs.Disks.{IsLater}
-use Rattle.block_shelf.specs.View.{IsShelf, AreSure}
+use Rattle.block_shelf.specs.View.{IsShelf, AreSure, has_begun}
 use Rattle.block_shelf.specs.Sure.{StaysSure}
 use Rattle.block_shelf.specs.Scans.{possible_copies}
 use Rattle.block_shelf.specs.declared.refusals.ReadRefusal.{ReadRefusal}
@@ -116,6 +117,12 @@ pub record FlushesOn {D E : Type 0} (view : D → DiskView) (flushed : Result �
   pub quiet : OnOk flushed (new.shelf.buffers ≡ [])
   pub left : OnErr flushed (new.shelf.buffers ≢ [])
 
+-- A heal of one device, by what it answers: no gate is unsure behind one that isn't refused, where no gate's write had begun.
+pub record HealsOn {D E : Type 0} (view : D → DiskView) (healed : Result ℕ E) (old new : ShardView D) : Type 0 where
+  pub goes : GoesOn view old new
+  pub makes : (s : State) → Agrees old s → Makes view heal_call (flush_answer healed) old s new
+  pub known : AllByRecursion (λ b. has_begun b.phase ≡ false) old.shelf.buffers → OnOk healed (AreSure new.shelf.gates)
+
 -- ---- all devices, one after another
 
 abbrev pub TendTurn : {D A : Type 0} → (view : D → DiskView) → A → (old new : ShardView D) → A → Type 0
@@ -143,6 +150,10 @@ plus_both a b = (a.0 + b.0, a.1 + b.1)
 -- each device is flushed, and so many buffers with them
 abbrev pub FlushesEach : {D E : Type 0} → (view : D → DiskView) → Result ℕ E → (olds news : List (ShardView D)) → Type 0
 FlushesEach {D} {E} view flushed olds news = WorksEach (FlushesOn {E = E} view) plus_one flushed 0 olds news
+
+-- each device is healed, and so many gates are closed with them
+abbrev pub HealsEach : {D E : Type 0} → (view : D → DiskView) → Result ℕ E → (olds news : List (ShardView D)) → Type 0
+HealsEach {D} {E} view healed olds news = WorksEach (HealsOn {E = E} view) plus_one healed 0 olds news
 
 -- each device is defragmented: so many records are moved, out of so many blocks
 abbrev pub DefragsEach : {D : Type 0} → (view : D → DiskView) → Result (ℕ × ℕ) DefragCause → (olds news : List (ShardView D)) → Type 0

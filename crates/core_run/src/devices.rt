@@ -4,7 +4,7 @@ ghost use Rattle.disk_model.specs.declared.disk.DiskFault.{DiskFault};
 ghost use Rattle.model_node.specs.Commands.{Node, node_counts};
 ghost use Rattle.core_run.specs.Standing.{Each, StandsOn};
 ghost use Rattle.node_replies.specs.Through.{Through};
-ghost use Rattle.core_run.specs.Turns.{TendTurn, CloseTurn, DefragsOn, DefragsEach, ExpiresOn, ExpiresAll, FlushesEach};
+ghost use Rattle.core_run.specs.Turns.{TendTurn, CloseTurn, DefragsOn, DefragsEach, ExpiresOn, ExpiresAll, FlushesEach, HealsEach};
 
 use disk_model::{Disk, DiskFault};
 use node_replies::{NO_COUNTS, plus};
@@ -23,6 +23,19 @@ pub fn flush_each<D: Disk>(shards: &mut [Shard<D>]) -> Result<u64, DiskFault>
         flushed += shard.flush()?;
     }
     Ok(flushed)
+}
+
+/// At `Ok` it is known of each gate whether it is set, but of those whose write had begun, and it answers how many gates were closed for it. It
+/// stops at the first device that fails, and those behind that are as before.
+pub fn heal_each<D: Disk>(shards: &mut [Shard<D>]) -> Result<u64, DiskFault>
+    requires few { length shards.old ≤ 16 }
+    ensures { HealsEach D.view result shards.old shards.new }
+{
+    let mut healed = 0;
+    for shard in shards.iter_mut() {
+        healed += shard.heal()?;
+    }
+    Ok(healed)
 }
 
 // Vacates blocks of a device, one after another, until none waits, or as many are vacated as waited at its start. Answers how many records

@@ -13,14 +13,16 @@ ghost use Rattle.core_run.specs.Turns.{RepliesOn, GoesOn};
 ghost use Rattle.core_run.specs.Calls.{Acts, Closes};
 ghost use Rattle.node_replies.specs.Digests.{digest_of};
 
-use crate::devices::{close_each, counts_of, defrag_each, expire_each, flush_each, tend_each};
+use crate::devices::{
+    close_each, counts_of, defrag_each, expire_each, flush_each, heal_each, tend_each,
+};
 use crate::raid::raid_each;
 use crate::starts::{start_all, stop_all};
 use disk_model::Disk;
 use line_proto::{Command, Reply, Store};
 use node_replies::{
-    defrag_reply, delete_reply, digest_of, expire_reply, flush_reply, known_reply, raid_reply,
-    read_reply, write_reply,
+    defrag_reply, delete_reply, digest_of, expire_reply, flush_reply, heal_reply, known_reply,
+    raid_reply, read_reply, write_reply,
 };
 use partition_map::device_of;
 use rec_format::{Counts, Digest};
@@ -197,6 +199,8 @@ impl<D: Disk> Store for Node<D> {
 
     ghost tends = { Tends D.view };
 
+    /// A command that is refused leaves its device as the device's call does, and every other as it was. Of a command over all devices those
+    /// before the one that is refused have done theirs, what that one did before stands, and those behind it are as before.
     fn act(&mut self, alloc: Global, command: &Command, now: u64) -> Reply {
         if self.refused.is_some() {
             return Reply::Halted;
@@ -213,6 +217,7 @@ impl<D: Disk> Store for Node<D> {
         }
         match command {
             Command::Flush => flush_reply(flush_each(&mut self.shards)),
+            Command::Heal => heal_reply(heal_each(&mut self.shards)),
             Command::Defrag => defrag_reply(defrag_each(alloc, &mut self.shards)),
             Command::Expire => expire_reply(expire_each(alloc, &mut self.shards, now)),
             Command::Raid => raid_reply(raid_each(alloc, &mut self.shards, now)),
@@ -222,6 +227,7 @@ impl<D: Disk> Store for Node<D> {
         }
     }
 
+    /// What is refused on one device leaves it as `Shard::tend` does, and the next is tended all the same.
     fn tend(&mut self, alloc: Global) {
         tend_each(alloc, &mut self.shards);
     }

@@ -7,3 +7,4 @@ pub mod Shown
 pub mod Refusing
 pub mod Serving
 pub mod Ready
+pub mod Healing

@@ -40,6 +40,7 @@ module _ {D : Type 0} (view : D → DiskView) where
     again = λ fresh is goes. absurd (none_is fresh is);
     refused = λ is. absurd (bye_goes is);
     sure = λ fresh is. absurd (none_is fresh is);
+    healed = λ gates is. cc;
     raided = λ is removed cleared other. cc;
     got = λ device event digest time is. cc;
   }

@@ -1,7 +1,8 @@
 -- What a session shows of its store is what the lines of a run show of its disks.
 use native.Mathlib.Omega.{arith}
-use Rattle.std.proofs.Common.{◌≡◌, ◌⊎◌, ℕ, zero, suc, ◌+◌, ◌<◌, Bool, List, [], ◌∷◌, length, refl, sym, ◌∙◌, ap, subst, inl, inr}
-use Rattle.std.specs.Prelude.{◌≢◌, Option, Some, None, MatchOption}
+use Rattle.std.proofs.Common.{◌≡◌, ◌⊎◌, ℕ, zero, suc, ◌+◌, ◌<◌, Bool, true, false, ◌||◌, ◌&&◌, cond, List, [], ◌∷◌, length, refl, sym, ◌∙◌, ap, subst, inl, inr}
+use Rattle.std.specs.Prelude.{◌≢◌, Option, Some, None, MatchOption, is_some}
+use Rattle.std.proofs.lemmas.Bool.{and_parts}
 use Rattle.rec_format.specs.declared.entry.Counts.{Counts}
 use Rattle.rec_format.specs.Versions.{bounded_time}
 use Rattle.disk_model.specs.Disk.{DiskView, IsDisk}
@@ -13,20 +14,22 @@ use Rattle.cold_scan.specs.Starting.{IsRefused, FaultRose}
 use Rattle.shard_core.specs.declared.settings.Settings.{Settings}
 use Rattle.node_session.specs.declared.ended.Ended.{Ended}
 use Rattle.node_session.specs.declared.ended.Ended.TheVariants.{Finish, Quit, SourceFault, SinkFault, Memory, Halted, Long}
+use Rattle.line_proto.specs.declared.reply.Reply.{Reply}
 use Rattle.line_proto.specs.declared.reply.Reply.TheVariants as reply
 use Rattle.model_node.specs.declared.run_end.RunEnd.{RunEnd}
-use Rattle.model_node.specs.Commands.{Node, on_device}
-use Rattle.model_node.specs.Run.{Served, node_after_line}
+use Rattle.model_node.specs.Commands.{Node, node_after, on_device}
+use Rattle.model_node.specs.Run.{Served, node_or, node_at_reply, node_after_line}
 use Rattle.model_node.specs.Outside.{counts_of}
+use Rattle.model_node.specs.Opening.{none_opening}
 use Rattle.model_node.specs.Shown.{TakenWith, FrontIsTaken, IsRefusedSo, Shows}
 use Rattle.core_run.specs.Views.{NodeView, halted, disks_of, view_at, asked, AreLater}
 use Rattle.core_run.specs.Starts.{RefusesAt}
 use Rattle.core_run.specs.Sure.{AreSureSince, StaySure}
-use Rattle.core_run.specs.Shown.{ShowsOn}
+use Rattle.core_run.specs.Shown.{HealsAll, ShowsOn}
 use Rattle.law_session.specs.Chain.{ShowsLine, ShowsAll}
 use Rattle.law_run.specs.Concluding.{refusal_end, session_end}
 use Rattle.law_run.specs.Behind.{WasClosed, WasRefused}
-use Rattle.law_run.specs.Shown.{counts_or, RaidShows, ShownEach}
+use Rattle.law_run.specs.Shown.{tells_gates, is_healed, counts_behind, RaidShows, ShownEach}
 use Rattle.law_run.proofs.Disks.{are_later_none, are_later_then}
 use Rattle.law_run.proofs.Standing.{serves_or_halts, one_refusal}
 
@@ -188,18 +191,48 @@ module _ {D : Type 0} (view : D → DiskView) where
         (λ now. ShowsOn view told before node (bounded_time now) served.reply served.work served.restarted after)) at shown).raided is removed cleared replied since sure
 
     -- since when it is known of each gate whether it is set, behind a line
+    abbrev LineShown : (before after : NodeView D) → Node → Served → Option ℕ → Type 0
+    LineShown before after node served time = MatchOption time ((served.restarted ≡ None) × (served.work ≡ []) × (served.reply ≢ reply.Halted))
+        (λ now. ShowsOn view told before node (bounded_time now) served.reply served.work served.restarted after)
+
+    -- behind a restart
+    restart_sure : (before after : NodeView D) (node : Node) (served : Served) (fresh : Node) (time : Option ℕ) → LineShown before after node served time → served.restarted ≡ Some fresh
+        → AreSureSince view (counts_of fresh) after.shards
+    restart_sure before after node served fresh None idle is = absurd (none_is fresh (sym idle.0 ∙ is))
+    restart_sure before after node served fresh (Some now) one is = one.sure fresh is
+
+    -- behind a heal
+    heal_sure : (before after : NodeView D) (node : Node) (served : Served) (time : Option ℕ) → is_some time ≡ true → LineShown before after node served time
+        → HealsAll view node served.reply served.work served.restarted after
+    heal_sure before after node served None carried idle = let e : false ≡ true = carried in cc
+    heal_sure before after node served (Some now) carried one = one.healed
+
+    gates_told : (r : Reply) → tells_gates r ≡ true → (gates : ℕ) × (r ≡ reply.Healed gates)
+    gates_told (reply.Healed gates) is = (gates, refl)
+    gates_told r is = let e : false ≡ true = is in cc
+
     sure_behind : (before after : NodeView D) (node : Node) (served : Served) (since : List ℕ) → AreSureSince view since before.shards → LaterNode view before after
-        → ShowsLine (ShowsOn view told) before node served after → AreSureSince view (counts_or since served.restarted) after.shards
+        → ShowsLine (ShowsOn view told) before node served after → AreSureSince view (counts_behind since node served) after.shards
     sure_behind before after node served since sure later shown = by served.restarted refl
       where
-        of : (time : Option ℕ) (fresh : Node) → served.restarted ≡ Some fresh → MatchOption time ((served.restarted ≡ None) × (served.work ≡ []) × (served.reply ≢ reply.Halted))
-            (λ now. ShowsOn view told before node (bounded_time now) served.reply served.work served.restarted after) → AreSureSince view (counts_of fresh) after.shards
-        of None fresh is idle = absurd (none_is fresh (sym idle.0 ∙ is))
-        of (Some now) fresh is one = one.sure fresh is
+        Healed : Bool
+        Healed = is_healed served && none_opening node
 
-        by : (restarted : Option Node) → served.restarted ≡ restarted → AreSureSince view (counts_or since served.restarted) after.shards
-        by None is = subst (λ (r : Option Node). AreSureSince view (counts_or since r) after.shards) (sym is) (later.1 since sure)
-        by (Some fresh) is = subst (λ (r : Option Node). AreSureSince view (counts_or since r) after.shards) (sym is) (of served.time fresh is shown)
+        Known : (restarted : Option Node) → (healed : Bool) → Type 0
+        Known restarted healed = AreSureSince view (cond (is_some restarted || healed) (counts_of (node_or (node_after served.work node) restarted)) since) after.shards
+
+        unstarted : served.restarted ≡ None → (healed : Bool) → Healed ≡ healed → Known None healed
+        unstarted none false is = later.1 since sure
+        unstarted none true is =
+            let parts = and_parts (is_healed served) (none_opening node) is in
+            let carried = and_parts (is_some served.time) (tells_gates served.reply) parts.0 in
+            let told_so = gates_told served.reply carried.1 in
+            subst (λ (r : Option Node). AreSureSince view (counts_of (node_or (node_after served.work node) r)) after.shards) none
+            (heal_sure before after node served served.time carried.0 shown told_so.0 told_so.1 parts.1)
+
+        by : (restarted : Option Node) → served.restarted ≡ restarted → AreSureSince view (counts_behind since node served) after.shards
+        by None is = subst (λ (r : Option Node). Known r Healed) (sym is) (unstarted is Healed refl)
+        by (Some fresh) is = subst (λ (r : Option Node). Known r Healed) (sym is) (restart_sure before after node served fresh served.time shown is)
 
     shows_later : ((disk : D) → IsDisk (view disk)) → (old : NodeView D) (node : Node) (lines : List Served)
         → ShowsAll (ShowsOn view told) (LaterNode view) old node lines new → LaterNode view old new
@@ -220,6 +253,6 @@ module _ {D : Type 0} (view : D → DiskView) where
       shown.3.0,
       line_shows shown.0 shown.1 node served (shows_later is_disk shown.1 (node_after_line served node) lines shown.5) shown.4,
       raid_shows shown.0 shown.1 node served since (shown.2.1 since sure) shown.4,
-      lines_show is_disk (counts_or since served.restarted) (disks_of shown.1) last shown.1 (node_after_line served node) lines
+      lines_show is_disk (counts_behind since node served) (disks_of shown.1) last shown.1 (node_after_line served node) lines
           (sure_behind shown.0 shown.1 node served since (shown.2.1 since sure) shown.3 shown.4) (are_later_none view is_disk (disks_of shown.1)) back shown.5,
     )

@@ -53,6 +53,7 @@ text_of (served ∷ lines) = ap (λ (l : List ℕ). reply_text served.reply ++ l
 go_not_halts : (r : Reply) → goes_on r ≡ true → halts r ≡ false
 go_not_halts (reply.Written stamp) goes = refl
 go_not_halts (reply.Flushed buffers) goes = refl
+go_not_halts (reply.Healed gates) goes = refl
 go_not_halts (reply.Defragged moved vacated) goes = refl
 go_not_halts (reply.Expired removed) goes = refl
 go_not_halts (reply.Raided removed cleared) goes = refl
@@ -69,6 +70,7 @@ go_not_halts reply.Halted goes = cc
 go_not_bye : (r : Reply) → goes_on r ≡ true → is_bye r ≡ false
 go_not_bye (reply.Written stamp) goes = refl
 go_not_bye (reply.Flushed buffers) goes = refl
+go_not_bye (reply.Healed gates) goes = refl
 go_not_bye (reply.Defragged moved vacated) goes = refl
 go_not_bye (reply.Expired removed) goes = refl
 go_not_bye (reply.Raided removed cleared) goes = refl
@@ -113,6 +115,7 @@ last_bye (s ∷ rs) r go = rw (go_not_bye s go.0) (last_bye rs r go.1)
 pub halts_not : (r : Reply) → (r ≡ reply.Halted → ⊥) → halts r ≡ false
 halts_not (reply.Written stamp) not_halted = refl
 halts_not (reply.Flushed buffers) not_halted = refl
+halts_not (reply.Healed gates) not_halted = refl
 halts_not (reply.Defragged moved vacated) not_halted = refl
 halts_not (reply.Expired removed) not_halted = refl
 halts_not (reply.Raided removed cleared) not_halted = refl

@@ -16,7 +16,7 @@ use Rattle.line_proto.specs.declared.command.Command.TheVariants as command
 use Rattle.line_proto.specs.declared.reply.Reply.{Reply}
 use Rattle.line_proto.specs.declared.reply.Reply.TheVariants as reply
 use Rattle.line_proto.specs.declared.reply.LineFault.TheVariants as why
-use Rattle.model_node.specs.Commands.{Node, NodeEvent, node_after, Does, IsLegalOn, TendsEach, answer_reply, found_reply, meta_reply, flushed_reply, defragged_reply, expired_reply, raided_reply}
+use Rattle.model_node.specs.Commands.{Node, NodeEvent, node_after, Does, IsLegalOn, TendsEach, answer_reply, found_reply, meta_reply, flushed_reply, healed_reply, defragged_reply, expired_reply, raided_reply}
 use Rattle.model_device.specs.Vacating.{Outcome, did, stopped}
 use Rattle.node_session.specs.Turns.{Times, WholeTurn, Turns, Answers, Quits, IsCommand, NamesNoCommand, MayLackMemory}
 use Rattle.model_node.specs.Run.{ImagesLeft, Served, Serves, ServesAll, AnswersLine, Carries, goes_on, halts, is_halted, node_or, node_at_reply}
@@ -34,6 +34,7 @@ use Rattle.law_session.proofs.Lines.{no_command_of, command_of, put_of}
 goes_of : (r : Reply) → r ≢ reply.Halted → r ≢ reply.Bye → goes_on r ≡ true
 goes_of (reply.Written stamp) not_halted not_bye = refl
 goes_of (reply.Flushed buffers) not_halted not_bye = refl
+goes_of (reply.Healed gates) not_halted not_bye = refl
 goes_of (reply.Defragged moved vacated) not_halted not_bye = refl
 goes_of (reply.Expired removed) not_halted not_bye = refl
 goes_of (reply.Raided removed cleared) not_halted not_bye = refl
@@ -74,6 +75,10 @@ flushed_is_no_bye : (outcome : Outcome) → flushed_reply outcome ≢ reply.Bye
 flushed_is_no_bye (did a b) is = cc
 flushed_is_no_bye (stopped cause) is = cc
 
+healed_is_no_bye : (outcome : Outcome) → healed_reply outcome ≢ reply.Bye
+healed_is_no_bye (did a b) is = cc
+healed_is_no_bye (stopped cause) is = cc
+
 defragged_is_no_bye : (outcome : Outcome) → defragged_reply outcome ≢ reply.Bye
 defragged_is_no_bye (did a b) is = cc
 defragged_is_no_bye (stopped cause) is = cc
@@ -93,6 +98,7 @@ does_no_bye node (command.Meta digest) now work r other does is = meta_is_no_bye
 does_no_bye node (command.Del digest) now work r other does is = answer_is_no_bye does.0.answer (sym does.3 ∙ is)
 does_no_bye node (command.Bury digest) now work r other does is = answer_is_no_bye does.0.answer (sym does.3 ∙ is)
 does_no_bye node command.Flush now work r other does is = flushed_is_no_bye does.0 (sym does.2 ∙ is)
+does_no_bye node command.Heal now work r other does is = healed_is_no_bye does.0 (sym does.2 ∙ is)
 does_no_bye node command.Defrag now work r other does is = defragged_is_no_bye does.0 (sym does.2 ∙ is)
 does_no_bye node command.Expire now work r other does is = expired_is_no_bye does.0 (sym does.2 ∙ is)
 does_no_bye node command.Raid now work r other does is = raided_is_no_bye does.0 (sym does.2 ∙ is)

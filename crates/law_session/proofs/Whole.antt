@@ -38,6 +38,7 @@ one_state device (Some slot) image (inr h) = absurd h
 pub halt_of : (r : Reply) → halts r ≡ true → r ≡ reply.Halted
 halt_of (reply.Written stamp) is = cc
 halt_of (reply.Flushed buffers) is = cc
+halt_of (reply.Healed gates) is = cc
 halt_of (reply.Defragged moved vacated) is = cc
 halt_of (reply.Expired removed) is = cc
 halt_of (reply.Raided removed cleared) is = cc
@@ -63,6 +64,7 @@ or_goes false b none is = is
 pub goes_more : (r : Reply) (P : Type 0) (lines : List Served) (next : Served) (rest : List Served) → MatchBool (goes_on r) P (lines ≡ []) → lines ≡ next ∷ rest → P × (halts r ≡ false)
 goes_more (reply.Written stamp) P lines next rest h is = (h, refl)
 goes_more (reply.Flushed buffers) P lines next rest h is = (h, refl)
+goes_more (reply.Healed gates) P lines next rest h is = (h, refl)
 goes_more (reply.Defragged moved vacated) P lines next rest h is = (h, refl)
 goes_more (reply.Expired removed) P lines next rest h is = (h, refl)
 goes_more (reply.Raided removed cleared) P lines next rest h is = (h, refl)

@@ -83,6 +83,7 @@ printed_spells (command.Meta digest) has = let one = printed_digest has.0 (codes
 printed_spells (command.Del digest) has = let one = printed_digest has.0 (codes "del") digest has.1.spells in record { short = as_short _ _ one.1 has.1.short; spells = one.0 }
 printed_spells (command.Bury digest) has = let one = printed_digest has.0 (codes "bury") digest has.1.spells in record { short = as_short _ _ one.1 has.1.short; spells = one.0 }
 printed_spells command.Flush has = record { short = alone has.0 (codes "flush") has.1.short has.1.spells; spells = refl }
+printed_spells command.Heal has = record { short = alone has.0 (codes "heal") has.1.short has.1.spells; spells = refl }
 printed_spells command.Defrag has = record { short = alone has.0 (codes "defrag") has.1.short has.1.spells; spells = refl }
 printed_spells command.Expire has = record { short = alone has.0 (codes "expire") has.1.short has.1.spells; spells = refl }
 printed_spells command.Raid has = record { short = alone has.0 (codes "raid") has.1.short has.1.spells; spells = refl }

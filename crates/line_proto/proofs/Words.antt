@@ -12,7 +12,7 @@ use Rattle.hex.specs.Hex.{is_hex_digit, decode_sized}
 use Rattle.hex.proofs.HexLemmas.{decode_of-ok, decode_sized-ok, decode_sized-twice}
 use Rattle.rec_format.specs.declared.version.Digest.{Digest}
 use Rattle.line_proto.specs.declared.command.Command.{Command}
-use Rattle.line_proto.specs.declared.command.Command.TheVariants.{Put, Get, Meta, Del, Bury, Flush, Defrag, Expire, Raid, Stat, Restart, Quit}
+use Rattle.line_proto.specs.declared.command.Command.TheVariants.{Put, Get, Meta, Del, Bury, Flush, Heal, Defrag, Expire, Raid, Stat, Restart, Quit}
 use Rattle.line_proto.specs.Lines.{line_limit, IsDigestText, IsExpectText, IsDataText, IsDigestLine, Spells, IsCommandLine, IsInRange}
 use Rattle.line_proto.specs.Reading.{IsWord, IsFour, IsPut, IsAlone, IsDigestCommand, IsPutCommand}
 
@@ -204,6 +204,7 @@ digest_command line word text fits parted no_put (Meta digest) = short_line line
 digest_command line word text fits parted no_put (Del digest) = short_line line (Del digest) _ fits (digest_line line word text (codes "del") digest parted (word_by (codes "del") refl))
 digest_command line word text fits parted no_put (Bury digest) = short_line line (Bury digest) _ fits (digest_line line word text (codes "bury") digest parted (word_by (codes "bury") refl))
 digest_command line word text fits parted no_put Flush = (λ wrong. absurd wrong, λ other. absurd (not_alone line word text (codes "flush") parted.0 (word_by (codes "flush") refl) other.spells))
+digest_command line word text fits parted no_put Heal = (λ wrong. absurd wrong, λ other. absurd (not_alone line word text (codes "heal") parted.0 (word_by (codes "heal") refl) other.spells))
 digest_command line word text fits parted no_put Defrag = (λ wrong. absurd wrong, λ other. absurd (not_alone line word text (codes "defrag") parted.0 (word_by (codes "defrag") refl) other.spells))
 digest_command line word text fits parted no_put Expire = (λ wrong. absurd wrong, λ other. absurd (not_alone line word text (codes "expire") parted.0 (word_by (codes "expire") refl) other.spells))
 digest_command line word text fits parted no_put Raid = (λ wrong. absurd wrong, λ other. absurd (not_alone line word text (codes "raid") parted.0 (word_by (codes "raid") refl) other.spells))
@@ -256,6 +257,7 @@ put_command line word text fits parted is_put (Del digest) =
 put_command line word text fits parted is_put (Bury digest) =
     (λ wrong. absurd wrong, λ other. absurd (no_put line word text (codes "bury") digest parted is_put refl (word_by (codes "bury") refl) other.spells))
 put_command line word text fits parted is_put Flush = (λ wrong. absurd wrong, λ other. absurd (not_alone line word text (codes "flush") parted.0 (word_by (codes "flush") refl) other.spells))
+put_command line word text fits parted is_put Heal = (λ wrong. absurd wrong, λ other. absurd (not_alone line word text (codes "heal") parted.0 (word_by (codes "heal") refl) other.spells))
 put_command line word text fits parted is_put Defrag = (λ wrong. absurd wrong, λ other. absurd (not_alone line word text (codes "defrag") parted.0 (word_by (codes "defrag") refl) other.spells))
 put_command line word text fits parted is_put Expire = (λ wrong. absurd wrong, λ other. absurd (not_alone line word text (codes "expire") parted.0 (word_by (codes "expire") refl) other.spells))
 put_command line word text fits parted is_put Raid = (λ wrong. absurd wrong, λ other. absurd (not_alone line word text (codes "raid") parted.0 (word_by (codes "raid") refl) other.spells))
@@ -284,6 +286,7 @@ alone_command line fits is_word (Meta digest) = (λ wrong. absurd wrong, λ othe
 alone_command line fits is_word (Del digest) = (λ wrong. absurd wrong, λ other. absurd (no_cut (codes "del") _ (subst IsWord other.spells.line_is is_word)))
 alone_command line fits is_word (Bury digest) = (λ wrong. absurd wrong, λ other. absurd (no_cut (codes "bury") _ (subst IsWord other.spells.line_is is_word)))
 alone_command line fits is_word Flush = short_line line Flush _ fits (λ is. is, λ is. is)
+alone_command line fits is_word Heal = short_line line Heal _ fits (λ is. is, λ is. is)
 alone_command line fits is_word Defrag = short_line line Defrag _ fits (λ is. is, λ is. is)
 alone_command line fits is_word Expire = short_line line Expire _ fits (λ is. is, λ is. is)
 alone_command line fits is_word Raid = short_line line Raid _ fits (λ is. is, λ is. is)

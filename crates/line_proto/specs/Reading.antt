@@ -54,6 +54,7 @@ pub record IsPutFront (text : List ℕ) : Type 0 where
 -- the line is the one word of this command
 abbrev pub IsAlone : List ℕ → Command → Type 0
 IsAlone line command.Flush = line ≡ codes "flush"
+IsAlone line command.Heal = line ≡ codes "heal"
 IsAlone line command.Stat = line ≡ codes "stat"
 IsAlone line command.Restart = line ≡ codes "restart"
 IsAlone line command.Quit = line ≡ codes "quit"

@@ -21,8 +21,11 @@ pub fn cut(text: &[u8], separator: u8) -> Option<(&[u8], &[u8])>
 pub fn digest_of(text: &[u8]) -> Option<Digest>
     ensures { (digest : Digest) → (result ≡ Some digest) ↔ IsDigestText text.now digest }
 {
+    if text.len() != 40 {
+        return None;
+    }
     let mut bytes = [0; 20];
-    match hex::decode_to_slice(text, &mut bytes) {
+    match hex_lanes::decode_into(text, &mut bytes) {
         Ok(()) => Some(Digest(bytes)),
         Err(_) => None,
     }

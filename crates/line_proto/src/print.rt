@@ -126,6 +126,7 @@ fn put_reply(reply: &Reply, out: &mut Vec<u8>) -> Result<(), NoMemory>
     match reply {
         Reply::Written { stamp } => put_line(b"ok", &[u64::from(stamp.gen_), stamp.lut], out),
         Reply::Flushed { buffers } => put_line(b"ok", &[*buffers], out),
+        Reply::Healed { gates } => put_line(b"ok", &[*gates], out),
         Reply::Defragged { moved, vacated } => put_line(b"ok", &[*moved, *vacated], out),
         Reply::Expired { removed } => put_line(b"ok", &[*removed], out),
         Reply::Raided { removed, cleared } => put_line(b"ok", &[*removed, *cleared], out),

@@ -49,6 +49,9 @@ fn alone_of(line: &[u8]) -> Option<Command>
     if line == b"raid".as_slice() {
         return Some(Command::Raid);
     }
+    if line == b"heal".as_slice() {
+        return Some(Command::Heal);
+    }
     None
 }
 

@@ -66,6 +66,7 @@ fn text_of_command(alloc: Global, command: &Command) -> Result<String, NoMemory>
         Command::Del(digest) => digest_line(alloc, "del", digest),
         Command::Bury(digest) => digest_line(alloc, "bury", digest),
         Command::Flush => String::from_str(alloc, "flush\n"),
+        Command::Heal => String::from_str(alloc, "heal\n"),
         Command::Defrag => String::from_str(alloc, "defrag\n"),
         Command::Expire => String::from_str(alloc, "expire\n"),
         Command::Raid => String::from_str(alloc, "raid\n"),

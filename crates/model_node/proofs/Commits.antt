@@ -23,7 +23,7 @@ use Rattle.line_proto.specs.declared.reply.Reply.{Reply}
 use Rattle.model_node.specs.Commands.{Slot, Node, NodeEvent, at_place, slot_after, node_after, IsLegalOn, on_device, answer_reply, EachDevice, expired_entries, Expires, expired_reply, Does}
 use Rattle.model_node.specs.Run.{ImagesLeft, Served, ServesAll, AnswersLine, node_or, node_at_reply, node_after_line, steps_on, WritesFlushed}
 use Rattle.model_node.specs.Headline.{On, is_failed, CommitsAt, CommitsAll}
-use Rattle.model_node.proofs.Unwritten.{on_each, all_flushes, all_defrags, all_raids, calls_write_nothing}
+use Rattle.model_node.proofs.Unwritten.{on_each, all_flushes, all_heals, all_defrags, all_raids, calls_write_nothing}
 use Rattle.model_node.proofs.Expiries.{HasRemoved, all_removed}
 use Rattle.model_node.proofs.Numbered.{AreNumbered, steps_numbered, line_numbered}
 
@@ -216,6 +216,8 @@ does_commit told node (command.Bury digest) now work r numbers does legal device
     (λ slot follows. call_commits slot told does.0 (bury_call digest now) does.2 follows) legal device
 does_commit told node command.Flush now work r numbers does legal device = unwritten (is_failed r) node (node_after work node) work device
     (calls_write_nothing told node work (all_flushes node work does.0 does.1) legal device)
+does_commit told node command.Heal now work r numbers does legal device = unwritten (is_failed r) node (node_after work node) work device
+    (calls_write_nothing told node work (all_heals node work does.0 does.1) legal device)
 does_commit told node command.Defrag now work r numbers does legal device = unwritten (is_failed r) node (node_after work node) work device
     (calls_write_nothing told node work (all_defrags node work does.0 does.1) legal device)
 does_commit told node command.Expire now work r numbers does legal device = expires_commit told node now work r numbers does legal device

@@ -8,3 +8,5 @@ pub mod Commits
 pub mod RunEnds
 pub mod Sparing
 pub mod Digits
+pub mod Replied
+pub mod Opening

@@ -24,7 +24,7 @@ use Rattle.line_proto.specs.Stream.{ended}
 use Rattle.model_node.specs.declared.run_end.RunEnd.{RunEnd}
 use Rattle.model_node.specs.declared.run_end.RunEnd.TheVariants as end
 use Rattle.model_node.specs.Commands.{Slot, Node, NodeEvent, IsLegalOn, node_after, on_device, found_reply, meta_reply, seen_on, answer_reply, flushed_reply}
-use Rattle.model_node.specs.Commands.{defragged_reply, expired_reply, raided_reply, Does}
+use Rattle.model_node.specs.Commands.{healed_reply, defragged_reply, expired_reply, raided_reply, Does}
 use Rattle.model_device.specs.Vacating.{Outcome, did, stopped}
 use Rattle.model_node.specs.Run.{ImagesLeft, Served, AnswersLine, ServesAll, IsRun, ClosesEach, halts, is_halted, node_after_line, last_node}
 use Rattle.model_node.specs.Outside.{Outside, TakesLines, rest_line}
@@ -110,6 +110,10 @@ flushed_goes : (outcome : Outcome) → halts (flushed_reply outcome) ≡ false
 flushed_goes (did a b) = refl
 flushed_goes (stopped cause) = refl
 
+healed_goes : (outcome : Outcome) → halts (healed_reply outcome) ≡ false
+healed_goes (did a b) = refl
+healed_goes (stopped cause) = refl
+
 defragged_goes : (outcome : Outcome) → halts (defragged_reply outcome) ≡ false
 defragged_goes (did a b) = refl
 defragged_goes (stopped cause) = refl
@@ -129,6 +133,7 @@ does_goes told node (command.Put digest ttl expect payload) now work r does lega
 does_goes told node (command.Get digest) now work r does legal =
     one_goes told node _ does.0 (get_call digest now) work r does.1 does.2 does.3 (λ slot allowed. get_goes slot.setup told slot.state does.0 digest now allowed) legal
 does_goes told node command.Flush now work r does legal = ap halts does.2 ∙ flushed_goes does.0
+does_goes told node command.Heal now work r does legal = ap halts does.2 ∙ healed_goes does.0
 does_goes told node command.Quit now work r does legal = ap halts does.1
 does_goes told node (command.Meta digest) now work r does legal = ap halts does.1 ∙ meta_goes (seen_on (slice_get node (device_number (length node) digest)) now digest)
 does_goes told node (command.Del digest) now work r does legal =
@@ -191,7 +196,7 @@ stops_nowhere : (some : List Step) → StopsIn [] some → ⊥
 stops_nowhere [] stops = let e : [] ≡ stops.0 ∷ stops.1 = stops.2 in cc
 stops_nowhere (step ∷ some) stops = let e : [] ≡ step ∷ (some ++ stops.0 ∷ stops.1) = stops.2 in cc
 
-no_steps : (event : Event) (first rest : List Step) → first ≡ [] → rest ≡ [] → FlushEnds event first rest → event.steps ≡ []
+pub no_steps : (event : Event) (first rest : List Step) → first ≡ [] → rest ≡ [] → FlushEnds event first rest → event.steps ≡ []
 no_steps event first rest no_first no_rest (inl all) = all.0 ∙ (λ i. no_first i ++ no_rest i)
 no_steps event first rest no_first no_rest (inr fails) = absurd (stops_nowhere fails.2 (subst (λ (steps : List Step). StopsIn steps fails.2) no_rest fails.4))
 

@@ -10,7 +10,7 @@ use Rattle.model_device.specs.Book.{Setup}
 use Rattle.model_device.specs.Device.{State, seen, entry_is_covered}
 use Rattle.model_device.specs.Steps.{Step, removed, after_steps}
 use Rattle.model_device.specs.Events.{Cause, too_big, wrong_generation, spent, overload, no_space, damaged, no_memory, disk_fault, stale}
-use Rattle.model_device.specs.Events.{Answer, happened, refused, counted, Call, Event, delete_call, flush_call}
+use Rattle.model_device.specs.Events.{Answer, happened, refused, counted, Call, Event, delete_call, flush_call, heal_call}
 use Rattle.model_device.specs.Legal.{FlushEnds, seal_all, flush_all, Only, Entombs, Removes, Allowed, Follows}
 use Rattle.model_device.specs.Vacating.{Outcome, did, stopped}
 use Rattle.line_proto.specs.declared.command.Command.{Command}
@@ -18,7 +18,7 @@ use Rattle.line_proto.specs.declared.command.Command.TheVariants as command
 use Rattle.line_proto.specs.declared.reply.Reply.{Reply}
 use Rattle.line_proto.specs.declared.reply.Reply.TheVariants as reply
 use Rattle.line_proto.specs.declared.reply.LineFault.TheVariants as why
-use Rattle.model_node.specs.Commands.{Slot, Node, NodeEvent, IsLegalOn, at_place, slot_after, on_device, fault_of, meta_reply, seen_on, answer_reply, flushed_reply, EachDevice, Flushes, Does}
+use Rattle.model_node.specs.Commands.{Slot, Node, NodeEvent, IsLegalOn, at_place, slot_after, on_device, fault_of, meta_reply, seen_on, answer_reply, flushed_reply, healed_reply, EachDevice, CountsOnce, Does}
 use Rattle.model_node.specs.Run.{ImagesLeft, Served, AnswersLine, Carries, ServesAll, node_after_line}
 use Rattle.model_node.specs.Memory.{entombs, may_lack_memory, MayLack, SpareMemory}
 
@@ -65,60 +65,73 @@ delete_on told None event digest now call bare follows = absurd follows
 delete_on told (Some slot) event digest now call bare follows =
     delete_spares slot.setup told slot.state event digest now bare (subst (λ (c : Call). Allowed slot.setup told slot.state event c) call follows.allowed)
 
--- ---- a flush
+-- ---- a flush and a heal
 
--- a flush isn't refused for want of memory
-abbrev FlushSpares : NodeEvent → Type 0
-FlushSpares e = e.event.call ≡ flush_call → e.event.answer ≢ refused no_memory
+-- Such a call isn't refused for want of memory.
+abbrev Spares : Call → Type 0
+Spares call = (setup : Setup) (told : Bool) (s : State) (event : Event) → Allowed setup told s event call → event.answer ≢ refused no_memory
+
+abbrev SparesOn : Call → NodeEvent → Type 0
+SparesOn call e = e.event.call ≡ call → e.event.answer ≢ refused no_memory
 
 flush_ends_spare : (event : Event) (first rest : List Step) → FlushEnds event first rest → event.answer ≢ refused no_memory
 flush_ends_spare event first rest (inl done) is = let e : counted _ ≡ refused no_memory = sym done.1 ∙ is in cc
 flush_ends_spare event first rest (inr fails) is = let e : refused disk_fault ≡ refused no_memory = sym fails.0 ∙ is in cc
 
-flush_on : (told : Bool) (o : Option Slot) (event : Event) → MatchOption o ⊥ (λ slot. Follows slot.setup told slot.state slot.faults event) → event.call ≡ flush_call
+flush_spares : Spares flush_call
+flush_spares setup told s event allowed =
+    let sealing : List Step = seal_all s.book in flush_ends_spare event sealing (flush_all (after_steps setup sealing s).book) allowed
+
+heal_spares : Spares heal_call
+heal_spares setup told s event (inl closed) is = let e : counted _ ≡ refused no_memory = sym closed.1 ∙ is in cc
+heal_spares setup told s event (inr fails) is = let e : refused disk_fault ≡ refused no_memory = sym fails.0 ∙ is in cc
+
+on_slot_spares : (call : Call) → Spares call → (told : Bool) (o : Option Slot) (event : Event) → MatchOption o ⊥ (λ slot. Follows slot.setup told slot.state slot.faults event) → event.call ≡ call
     → event.answer ≢ refused no_memory
-flush_on told None event follows call = absurd follows
-flush_on told (Some slot) event follows call =
-    let sealing : List Step = seal_all slot.state.book in
-    flush_ends_spare event sealing (flush_all (after_steps slot.setup sealing slot.state).book)
-    (subst (λ (c : Call). Allowed slot.setup told slot.state event c) call follows.allowed)
+on_slot_spares call spares told None event follows is = absurd follows
+on_slot_spares call spares told (Some slot) event follows is =
+    spares slot.setup told slot.state event (subst (λ (c : Call). Allowed slot.setup told slot.state event c) is follows.allowed)
 
-all_flushes_spare : (told : Bool) (node : Node) (work : List NodeEvent) → IsLegalOn told node work → AllByRecursion FlushSpares work
-all_flushes_spare told node [] legal = tt
-all_flushes_spare told node (e ∷ work) legal =
-    (flush_on told (slice_get node e.device) e.event legal.0, all_flushes_spare told (at_place e.device (slot_after e.event) node) work legal.1)
+all_spare : (call : Call) → Spares call → (told : Bool) (node : Node) (work : List NodeEvent) → IsLegalOn told node work → AllByRecursion (SparesOn call) work
+all_spare call spares told node [] legal = tt
+all_spare call spares told node (e ∷ work) legal =
+    (on_slot_spares call spares told (slice_get node e.device) e.event legal.0, all_spare call spares told (at_place e.device (slot_after e.event) node) work legal.1)
 
-all_behind : (first rest : List NodeEvent) → AllByRecursion FlushSpares (first ++ rest) → AllByRecursion FlushSpares rest
-all_behind [] rest all = all
-all_behind (e ∷ first) rest all = all_behind first rest all.1
+all_behind : (call : Call) (first rest : List NodeEvent) → AllByRecursion (SparesOn call) (first ++ rest) → AllByRecursion (SparesOn call) rest
+all_behind call [] rest all = all
+all_behind call (e ∷ first) rest all = all_behind call first rest all.1
 
-one_spares : (device : ℕ) (slot : Slot) (mine : List Event) (rest : List NodeEvent) (cause : Cause) → Flushes slot mine (stopped cause)
-    → AllByRecursion FlushSpares (map (on_device device) mine ++ rest) → cause ≢ no_memory
-one_spares device slot mine rest cause flushes all is = elim flushes.3 [
+one_spares : (call : Call) (device : ℕ) (slot : Slot) (mine : List Event) (rest : List NodeEvent) (cause : Cause) → CountsOnce call slot mine (stopped cause)
+    → AllByRecursion (SparesOn call) (map (on_device device) mine ++ rest) → cause ≢ no_memory
+one_spares call device slot mine rest cause counts all is = elim counts.3 [
   | inl done ↦ let e : stopped cause ≡ did _ _ = done.2 in cc
   | inr fails ↦
       let same : stopped cause ≡ stopped fails.0 = fails.2 in
       let its : fails.0 ≡ no_memory = cc in
-      let first = (subst (λ (events : List Event). AllByRecursion FlushSpares (map (on_device device) events ++ rest)) flushes.1 all).0 in
-      first flushes.2 (fails.1 ∙ ap refused its)
+      let first = (subst (λ (events : List Event). AllByRecursion (SparesOn call) (map (on_device device) events ++ rest)) counts.1 all).0 in
+      first counts.2 (fails.1 ∙ ap refused its)
 ]
 
-each_spares : (device : ℕ) (slots : Node) (a b : ℕ) (work : List NodeEvent) (outcome : Outcome) → EachDevice Flushes device slots a b work outcome → AllByRecursion FlushSpares work
-    → outcome ≢ stopped no_memory
-each_spares device [] a b work outcome each all is = let e : did a b ≡ stopped no_memory = sym each.1 ∙ is in cc
-each_spares device (slot ∷ slots) a b work outcome each all is =
-    let parted = subst (AllByRecursion FlushSpares) each.2 all in
+each_spares : (call : Call) (device : ℕ) (slots : Node) (a b : ℕ) (work : List NodeEvent) (outcome : Outcome) → EachDevice (CountsOnce call) device slots a b work outcome
+    → AllByRecursion (SparesOn call) work → outcome ≢ stopped no_memory
+each_spares call device [] a b work outcome each all is = let e : did a b ≡ stopped no_memory = sym each.1 ∙ is in cc
+each_spares call device (slot ∷ slots) a b work outcome each all is =
+    let parted = subst (AllByRecursion (SparesOn call)) each.2 all in
     elim each.3 [
-      | inl goes ↦ each_spares (device + 1) slots (a + goes.0) (b + goes.1) each.1 outcome goes.3 (all_behind (map (on_device device) each.0) each.1 parted) is
+      | inl goes ↦ each_spares call (device + 1) slots (a + goes.0) (b + goes.1) each.1 outcome goes.3 (all_behind call (map (on_device device) each.0) each.1 parted) is
       | inr ends ↦
           let e : stopped ends.0 ≡ stopped no_memory = sym ends.3 ∙ is in
           let its : ends.0 ≡ no_memory = cc in
-          one_spares device slot each.0 each.1 ends.0 ends.1 parted its
+          one_spares call device slot each.0 each.1 ends.0 ends.1 parted its
     ]
 
 flushed_spares : (outcome : Outcome) → outcome ≢ stopped no_memory → flushed_reply outcome ≢ Lacking
 flushed_spares (did a b) other lacks = cc
 flushed_spares (stopped cause) other lacks = let same : fault_of cause ≡ why.Memory = cc in other (ap stopped (memory_of cause same))
+
+healed_spares : (outcome : Outcome) → outcome ≢ stopped no_memory → healed_reply outcome ≢ Lacking
+healed_spares (did a b) other lacks = cc
+healed_spares (stopped cause) other lacks = let same : fault_of cause ≡ why.Memory = cc in other (ap stopped (memory_of cause same))
 
 -- ---- a command, and a line
 
@@ -133,7 +146,9 @@ does_spare told node (command.Del digest) now work r does legal bare lacks =
     let device : ℕ = device_number (length node) digest in
     delete_on told (slice_get node device) does.0 digest now does.2 bare (subst (λ (events : List NodeEvent). IsLegalOn told node events) does.1 legal).0 (sym does.3 ∙ lacks)
 does_spare told node command.Flush now work r does legal bare lacks =
-    flushed_spares does.0 (each_spares 0 node 0 0 work does.0 does.1 (all_flushes_spare told node work legal)) (sym does.2 ∙ lacks)
+    flushed_spares does.0 (each_spares flush_call 0 node 0 0 work does.0 does.1 (all_spare flush_call flush_spares told node work legal)) (sym does.2 ∙ lacks)
+does_spare told node command.Heal now work r does legal bare lacks =
+    healed_spares does.0 (each_spares heal_call 0 node 0 0 work does.0 does.1 (all_spare heal_call heal_spares told node work legal)) (sym does.2 ∙ lacks)
 does_spare told node command.Stat now work r does legal bare lacks = let e : reply.StatOf _ ≡ Lacking = sym does.1 ∙ lacks in cc
 does_spare told node command.Quit now work r does legal bare lacks = let e : reply.Bye ≡ Lacking = sym does.1 ∙ lacks in cc
 does_spare told node command.Restart now work r does legal bare lacks = absurd does

@@ -1,13 +1,13 @@
--- A flush writes no record, and neither does a defragmentation, since what is moved was written before, or a raid, which only removes and clears.
+-- A flush and a heal write no record, and neither does a defragmentation, since what is moved was written before, or a raid, which only removes and clears.
 use Rattle.std.proofs.Common.{◌≡◌, ◌⊎◌, ℕ, zero, suc, ◌+◌, Bool, true, false, cond, List, [], ◌∷◌, ◌++◌, length, map, sym, subst, inl, inr}
 use Rattle.std.specs.Prelude.{Option, Some, None, MatchOption, ◌==◌, slice_get}
 use Rattle.std.specs.List.{AllByRecursion}
 use Rattle.law_lists.proofs.Each.{all_joined}
 use Rattle.model_device.specs.Book.{Setup}
 use Rattle.model_device.specs.Device.{State}
-use Rattle.model_device.specs.Events.{Event, Call, flush_call, choose_call, move_call, begin_call, turn_call, Cause, block_chosen, refused, after_event, after_events}
+use Rattle.model_device.specs.Events.{Event, Call, flush_call, heal_call, choose_call, move_call, begin_call, turn_call, Cause, block_chosen, refused, after_event, after_events}
 use Rattle.model_device.specs.Legal.{Follows}
-use Rattle.model_node.specs.Commands.{Slot, Node, NodeEvent, at_place, slot_after, on_device, IsLegalOn, EachDevice, Flushes, Defragments, TakesTurns, removed_by, cleared_by, Raids}
+use Rattle.model_node.specs.Commands.{Slot, Node, NodeEvent, at_place, slot_after, on_device, IsLegalOn, EachDevice, CountsOnce, Flushes, Heals, Defragments, TakesTurns, removed_by, cleared_by, Raids}
 use Rattle.model_device.specs.Vacating.{Outcome, did, stopped, moved_by, MovesOut, Vacates, VacatesUpTo}
 use Rattle.law_commit.proofs.Unwriting.{IsUnwriting, WritesNone, unwritten}
 use Rattle.model_node.specs.Run.{steps_on}
@@ -96,11 +96,14 @@ all_worked P Work each_is device (slot ∷ slots) a b work outcome each =
           (subst (λ (events : List NodeEvent). AllByRecursion (λ e. P e.event) events) (sym stops.2) tt)
     ])
 
-flush_unwriting : (slot : Slot) (events : List Event) (outcome : Outcome) → Flushes slot events outcome → AreUnwriting events
-flush_unwriting slot events outcome does = subst AreUnwriting (sym does.1) (called does.0 flush_call does.2 tt, tt)
+one_unwriting : (call : Call) → IsUnwriting call → (slot : Slot) (events : List Event) (outcome : Outcome) → CountsOnce call slot events outcome → AreUnwriting events
+one_unwriting call is slot events outcome does = subst AreUnwriting (sym does.1) (called does.0 call does.2 is, tt)
 
 pub all_flushes : (node : Node) (work : List NodeEvent) (outcome : Outcome) → EachDevice Flushes 0 node 0 0 work outcome → AllByRecursion IsUnwritingOn work
-all_flushes node work outcome each = all_worked (λ event. IsUnwriting event.call) Flushes flush_unwriting 0 node 0 0 work outcome each
+all_flushes node work outcome each = all_worked (λ event. IsUnwriting event.call) Flushes (one_unwriting flush_call tt) 0 node 0 0 work outcome each
+
+pub all_heals : (node : Node) (work : List NodeEvent) (outcome : Outcome) → EachDevice Heals 0 node 0 0 work outcome → AllByRecursion IsUnwritingOn work
+all_heals node work outcome each = all_worked (λ event. IsUnwriting event.call) Heals (one_unwriting heal_call tt) 0 node 0 0 work outcome each
 
 pub all_defrags : (node : Node) (work : List NodeEvent) (outcome : Outcome) → EachDevice Defragments 0 node 0 0 work outcome → AllByRecursion IsUnwritingOn work
 all_defrags node work outcome each =

@@ -7,7 +7,7 @@ use Rattle.rec_format.specs.Places.{device_number}
 use Rattle.rec_format.specs.Versions.{version_units, is_expired_put}
 use Rattle.model_device.specs.Book.{Setup, held_blocks}
 use Rattle.model_device.specs.Device.{State, finished, entry, entry_passes, seen, digests_of, part_of, put_count, tombstone_count, covered_count}
-use Rattle.model_device.specs.Events.{Call, put_call, bury_call, delete_call, get_call, flush_call, begin_call, turn_call, Cause, too_big, wrong_generation, spent, overload, no_space, damaged, no_memory, disk_fault, stale, Answer, stamp_given, happened, found_version, counted, block_chosen, raid_numbered, marks_made, block_scanned, marks_undone, part_ended, raid_over, refused, Event, after_event}
+use Rattle.model_device.specs.Events.{Call, put_call, bury_call, delete_call, get_call, flush_call, heal_call, begin_call, turn_call, Cause, too_big, wrong_generation, spent, overload, no_space, damaged, no_memory, disk_fault, stale, Answer, stamp_given, happened, found_version, counted, block_chosen, raid_numbered, marks_made, block_scanned, marks_undone, part_ended, raid_over, refused, Event, after_event}
 use Rattle.model_device.specs.Legal.{Follows, same_turn}
 use Rattle.model_device.specs.Vacating as vacating
 use Rattle.model_device.specs.Vacating.{Outcome, did, stopped, IfRefused}
@@ -119,10 +119,17 @@ EachDevice Work device (slot ∷ slots) a b events outcome =
     × (((x : ℕ) × (y : ℕ) × Work slot mine (did x y) × EachDevice Work (device + 1) slots (a + x) (b + y) rest outcome)
     ⊎ ((cause : Cause) × Work slot mine (stopped cause) × (rest ≡ []) × (outcome ≡ stopped cause)))
 
-abbrev pub Flushes : Slot → List Event → Outcome → Type 0
-Flushes slot events outcome =
-    (event : Event) × (events ≡ event ∷ []) × (event.call ≡ flush_call)
+-- one event of this call, whose count is the outcome
+abbrev pub CountsOnce : Call → Slot → List Event → Outcome → Type 0
+CountsOnce call slot events outcome =
+    (event : Event) × (events ≡ event ∷ []) × (event.call ≡ call)
     × (((n : ℕ) × (event.answer ≡ counted n) × (outcome ≡ did n 0)) ⊎ ((cause : Cause) × (event.answer ≡ refused cause) × (outcome ≡ stopped cause)))
+
+abbrev pub Flushes : Slot → List Event → Outcome → Type 0
+Flushes slot events outcome = CountsOnce flush_call slot events outcome
+
+abbrev pub Heals : Slot → List Event → Outcome → Type 0
+Heals slot events outcome = CountsOnce heal_call slot events outcome
 
 -- ---- vacating
 
@@ -197,6 +204,10 @@ abbrev pub flushed_reply : Outcome → Reply
 flushed_reply (did buffers none) = reply.Flushed buffers
 flushed_reply (stopped cause) = reply.Fail (fault_of cause)
 
+abbrev pub healed_reply : Outcome → Reply
+healed_reply (did gates none) = reply.Healed gates
+healed_reply (stopped cause) = reply.Fail (fault_of cause)
+
 abbrev pub defragged_reply : Outcome → Reply
 defragged_reply (did moved vacated) = reply.Defragged moved vacated
 defragged_reply (stopped cause) = reply.Fail (fault_of cause)
@@ -225,6 +236,7 @@ Does node (command.Meta digest) now events r =
 Does node (command.Del digest) now events r = OneEvent node digest (delete_call digest now) events r
 Does node (command.Bury digest) now events r = OneEvent node digest (bury_call digest now) events r
 Does node command.Flush now events r = EachThen Flushes flushed_reply node events r
+Does node command.Heal now events r = EachThen Heals healed_reply node events r
 Does node command.Defrag now events r = EachThen Defragments defragged_reply node events r
 Does node command.Expire now events r = EachThen (Expires now) expired_reply node events r
 Does node command.Raid now events r = EachThen (Raids now) raided_reply node events r

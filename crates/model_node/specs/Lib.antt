@@ -7,3 +7,4 @@ pub mod RunEnd
 pub mod Headline
 pub mod Meaning
 pub mod Shown
+pub mod Opening

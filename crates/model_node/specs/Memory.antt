@@ -22,6 +22,7 @@ abbrev pub may_lack_memory : Node → (now : ℕ) → Command → Bool
 may_lack_memory node now (command.Meta digest) = false
 may_lack_memory node now (command.Del digest) = entombs now digest (slice_get node (device_number (length node) digest))
 may_lack_memory node now command.Flush = false
+may_lack_memory node now command.Heal = false
 may_lack_memory node now command.Stat = false
 may_lack_memory node now command.Restart = false
 may_lack_memory node now command.Quit = false

@@ -29,3 +29,7 @@ IsRaided result outcome = EndsAs (λ sums. sums) (λ fault cause. fault ≡ faul
 -- so many buffers were flushed, or the disk failed
 abbrev pub IsFlushed : {E : Type 0} → Result ℕ E → Outcome → Type 0
 IsFlushed flushed outcome = EndsAs (λ n. (n, 0)) (λ fault cause. cause ≡ disk_fault) flushed outcome
+
+-- so many gates were closed, or the disk failed
+abbrev pub IsHealed : {E : Type 0} → Result ℕ E → Outcome → Type 0
+IsHealed healed outcome = EndsAs (λ n. (n, 0)) (λ fault cause. cause ≡ disk_fault) healed outcome

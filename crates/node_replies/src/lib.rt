@@ -8,6 +8,6 @@ mod replies;
 pub use counts::{NO_COUNTS, plus};
 pub use digests::digest_of;
 pub use replies::{
-    defrag_reply, delete_reply, expire_reply, flush_reply, known_reply, raid_reply, read_reply,
-    write_reply,
+    defrag_reply, delete_reply, expire_reply, flush_reply, heal_reply, known_reply, raid_reply,
+    read_reply, write_reply,
 };

@@ -3,10 +3,10 @@ ghost use Rattle.std.specs.Prelude.{◌≡◌, Option};
 ghost use Rattle.rec_format.specs.declared.version.Version.{Version};
 ghost use Rattle.model_device.specs.Events.{Cause};
 ghost use Rattle.model_device.specs.Vacating.{Outcome};
-ghost use Rattle.model_node.specs.Commands.{answer_reply, defragged_reply, expired_reply, fault_of, flushed_reply, meta_reply, raided_reply};
+ghost use Rattle.model_node.specs.Commands.{answer_reply, defragged_reply, expired_reply, fault_of, flushed_reply, healed_reply, meta_reply, raided_reply};
 ghost use Rattle.shard_core.specs.Vacating.{IsCauseOf};
 ghost use Rattle.shard_core.specs.Calls.{cause_of_write, delete_answer, meta_of, read_answer, write_answer};
-ghost use Rattle.node_replies.specs.Outcomes.{IsDefragged, IsExpired, IsFlushed, IsRaided};
+ghost use Rattle.node_replies.specs.Outcomes.{IsDefragged, IsExpired, IsFlushed, IsHealed, IsRaided};
 
 use disk_model::DiskFault;
 use line_proto::{LineFault, Reply};
@@ -130,6 +130,16 @@ pub fn flush_reply(flushed: Result<u64, DiskFault>) -> Reply
 {
     match flushed {
         Ok(buffers) => Reply::Flushed { buffers },
+        Err(_) => Reply::Fail(LineFault::Fault),
+    }
+}
+
+/// The reply to `heal`: how many gates were closed, or that a disk failed.
+pub fn heal_reply(healed: Result<u64, DiskFault>) -> Reply
+    ensures { (outcome : Outcome) → IsHealed healed outcome → result ≡ healed_reply outcome }
+{
+    match healed {
+        Ok(gates) => Reply::Healed { gates },
         Err(_) => Reply::Fail(LineFault::Fault),
     }
 }

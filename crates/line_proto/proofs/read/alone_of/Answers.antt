@@ -2,7 +2,7 @@ use Rattle.std.proofs.Common.{◌≡◌, List, ℕ, Some, None, ◌↔◌, sym, 
 use Rattle.std.specs.Prelude.{codes, slice_index, ◌==◌, if◌then◌else◌, Option}
 use Rattle.std.specs.Cmp.Lexicographic.{same_text, other_text}
 use Rattle.line_proto.specs.declared.command.Command.{Command}
-use Rattle.line_proto.specs.declared.command.Command.TheVariants.{Flush, Defrag, Expire, Raid, Stat, Restart, Quit}
+use Rattle.line_proto.specs.declared.command.Command.TheVariants.{Flush, Heal, Defrag, Expire, Raid, Stat, Restart, Quit}
 use Rattle.line_proto.specs.Reading.{IsAlone}
 use Rattle.line_proto.proofs.read.alone_of.Goals as goal
 
@@ -15,6 +15,7 @@ by_letters first second =
     else if first == 114 then (if second == 97 then Some Raid else Some Restart)
     else if first == 100 then Some Defrag
     else if first == 101 then Some Expire
+    else if first == 104 then Some Heal
     else None
 
 abbrev by_word : List ℕ → Option Command
@@ -29,6 +30,7 @@ one_made line Quit is = ap by_word is
 one_made line Defrag is = ap by_word is
 one_made line Expire is = ap by_word is
 one_made line Raid is = ap by_word is
+one_made line Heal is = ap by_word is
 one_made line c is = absurd is
 
 found : (line : List ℕ) (c : Command) → IsAlone line c → (other : Command) → (Some c ≡ Some other) ↔ IsAlone line other
@@ -38,15 +40,16 @@ found line c is other = (
 )
 
 lost : (line : List ℕ) → (line ≡ codes "quit" → ⊥) → (line ≡ codes "flush" → ⊥) → (line ≡ codes "stat" → ⊥) → (line ≡ codes "restart" → ⊥) → (line ≡ codes "defrag" → ⊥)
-    → (line ≡ codes "expire" → ⊥) → (line ≡ codes "raid" → ⊥) → (c : Command) → (None ≡ Some c) ↔ IsAlone line c
-lost line no_quit no_flush no_stat no_restart no_defrag no_expire no_raid Flush = (λ is. cc, λ is. absurd (no_flush is))
-lost line no_quit no_flush no_stat no_restart no_defrag no_expire no_raid Stat = (λ is. cc, λ is. absurd (no_stat is))
-lost line no_quit no_flush no_stat no_restart no_defrag no_expire no_raid Restart = (λ is. cc, λ is. absurd (no_restart is))
-lost line no_quit no_flush no_stat no_restart no_defrag no_expire no_raid Quit = (λ is. cc, λ is. absurd (no_quit is))
-lost line no_quit no_flush no_stat no_restart no_defrag no_expire no_raid Defrag = (λ is. cc, λ is. absurd (no_defrag is))
-lost line no_quit no_flush no_stat no_restart no_defrag no_expire no_raid Expire = (λ is. cc, λ is. absurd (no_expire is))
-lost line no_quit no_flush no_stat no_restart no_defrag no_expire no_raid Raid = (λ is. cc, λ is. absurd (no_raid is))
-lost line no_quit no_flush no_stat no_restart no_defrag no_expire no_raid c = (λ is. cc, λ wrong. absurd wrong)
+    → (line ≡ codes "expire" → ⊥) → (line ≡ codes "raid" → ⊥) → (line ≡ codes "heal" → ⊥) → (c : Command) → (None ≡ Some c) ↔ IsAlone line c
+lost line no_quit no_flush no_stat no_restart no_defrag no_expire no_raid no_heal Flush = (λ is. cc, λ is. absurd (no_flush is))
+lost line no_quit no_flush no_stat no_restart no_defrag no_expire no_raid no_heal Stat = (λ is. cc, λ is. absurd (no_stat is))
+lost line no_quit no_flush no_stat no_restart no_defrag no_expire no_raid no_heal Restart = (λ is. cc, λ is. absurd (no_restart is))
+lost line no_quit no_flush no_stat no_restart no_defrag no_expire no_raid no_heal Quit = (λ is. cc, λ is. absurd (no_quit is))
+lost line no_quit no_flush no_stat no_restart no_defrag no_expire no_raid no_heal Defrag = (λ is. cc, λ is. absurd (no_defrag is))
+lost line no_quit no_flush no_stat no_restart no_defrag no_expire no_raid no_heal Expire = (λ is. cc, λ is. absurd (no_expire is))
+lost line no_quit no_flush no_stat no_restart no_defrag no_expire no_raid no_heal Raid = (λ is. cc, λ is. absurd (no_raid is))
+lost line no_quit no_flush no_stat no_restart no_defrag no_expire no_raid no_heal Heal = (λ is. cc, λ is. absurd (no_heal is))
+lost line no_quit no_flush no_stat no_restart no_defrag no_expire no_raid no_heal c = (λ is. cc, λ wrong. absurd wrong)
 
 pub returns-then-eq : goal.returns-then-eq
 returns-then-eq c = found c.args.line.now Quit (same_text c.args.line.now _ c.if-eq.ensures ∙ c.as_slice.ensures)
@@ -69,6 +72,9 @@ returns-then-eq-6 c = found c.args.line.now Expire (same_text c.args.line.now _ 
 pub returns-then-eq-7 : goal.returns-then-eq-7
 returns-then-eq-7 c = found c.args.line.now Raid (same_text c.args.line.now _ c.if-eq-7.ensures ∙ c.as_slice-7.ensures)
 
+pub returns-then-eq-8 : goal.returns-then-eq-8
+returns-then-eq-8 c = found c.args.line.now Heal (same_text c.args.line.now _ c.if-eq-8.ensures ∙ c.as_slice-8.ensures)
+
 pub returns : goal.returns
 returns c =
     lost c.args.line.now (λ is. other_text c.args.line.now _ c.if-eq.ensures (is ∙ sym c.as_slice.ensures))
@@ -78,3 +84,4 @@ returns c =
     (λ is. other_text c.args.line.now _ c.if-eq-5.ensures (is ∙ sym c.as_slice-5.ensures))
     (λ is. other_text c.args.line.now _ c.if-eq-6.ensures (is ∙ sym c.as_slice-6.ensures))
     (λ is. other_text c.args.line.now _ c.if-eq-7.ensures (is ∙ sym c.as_slice-7.ensures))
+    (λ is. other_text c.args.line.now _ c.if-eq-8.ensures (is ∙ sym c.as_slice-8.ensures))

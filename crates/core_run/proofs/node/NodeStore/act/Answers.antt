@@ -11,8 +11,8 @@ use Rattle.shard_core.specs.View.{ShardView}
 use Rattle.core_run.specs.Views.{NodeView}
 use Rattle.core_run.specs.Standing.{Each, StandsOn}
 use Rattle.core_run.specs.Calls.{Acts}
-use Rattle.core_run.specs.Turns.{FlushesOn, FlushesEach, plus_one, DefragsOn, DefragsEach, plus_both, ExpiresOn, ExpiresAll, RaidsOn, RaidsEach}
-use Rattle.core_run.proofs.Commands.{digest_acts, flush_acts, defrag_acts, expire_acts, raid_acts, stat_acts, acts_halted}
+use Rattle.core_run.specs.Turns.{FlushesOn, FlushesEach, HealsOn, HealsEach, plus_one, DefragsOn, DefragsEach, plus_both, ExpiresOn, ExpiresAll, RaidsOn, RaidsEach}
+use Rattle.core_run.proofs.Commands.{digest_acts, flush_acts, heal_acts, defrag_acts, expire_acts, raid_acts, stat_acts, acts_halted}
 use Rattle.core_run.proofs.Keeping.{few_served, SameEach, all_kept, all_act, node_kept, node_halts, acts_so, same_all, devices_of, device_at, same_at}
 use Rattle.core_run.proofs.Keeping.{same_worked}
 use Rattle.core_run.proofs.node.NodeStore.act.Given.{Over}
@@ -68,6 +68,13 @@ act_on-requires-clause-on g c = sym c.digest_of.ensures ∙ ap (option_map (λ d
 pub flush_each-requires : goal.flush_each-requires
 flush_each-requires g c = record {
   few = few_of c.self.inside.shards.items c.deref_mut.result.now c.deref_mut.ensures.value
+      (few_served c.self.inside.set (vec_capacity c.self.inside.shards)
+      (vec_capacity c.self.inside.disks) c.self.inside.shards.items c.self.inside.refused c.self.inside.disks.items c.self.invariant);
+}
+
+pub heal_each-requires : goal.heal_each-requires
+heal_each-requires g c = record {
+  few = few_of c.self.inside.shards.items c.deref_mut-in-Heal.result.now c.deref_mut-in-Heal.ensures.value
       (few_served c.self.inside.set (vec_capacity c.self.inside.shards)
       (vec_capacity c.self.inside.disks) c.self.inside.shards.items c.self.inside.refused c.self.inside.disks.items c.self.invariant);
 }
@@ -170,6 +177,27 @@ returns-in-Flush g c =
     (same_flushed g c) c.self.invariant none g.D.Disk.view
     c.args.self.now c.args.command.now command.Flush c.args.now c.flush_reply.result c.self.view_is c.in-Flush.is
     (flush_acts g.D.Disk.view g.met.D.Disk.is_disk c.flush_each.result c.self.inside.shards.items c.flush_each.new.shards c.args.now c.flush_reply.result (flushed g c) c.flush_reply.ensures)
+
+-- ---- a heal
+
+healed : (g : Over) (c : goal.After-heal_reply g) → HealsEach g.D.Disk.view c.heal_each.result c.self.inside.shards.items c.heal_each.new.shards
+healed g c = subst (λ (s : List (ShardView g.row.D.Denot)). HealsEach g.D.Disk.view c.heal_each.result s c.heal_each.new.shards) c.deref_mut-in-Heal.ensures.value c.heal_each.ensures
+
+same_healed : (g : Over) (c : goal.After-heal_reply g) → SameEach c.self.inside.shards.items c.heal_each.new.shards
+same_healed g c = same_worked (HealsOn {E = DiskFault} g.D.Disk.view) plus_one
+    (λ result old new does. does.goes.shape) c.heal_each.result 0 c.self.inside.shards.items c.heal_each.new.shards (healed g c)
+
+pub invariant_of-self-in-Heal : goal.invariant_of-self-in-Heal
+invariant_of-self-in-Heal g c =
+    all_kept c.self.inside.set (vec_capacity c.self.inside.disks) c.self.inside.shards c.heal_each.new.shards c.self.inside.refused c.self.inside.disks.items (same_healed g c) c.self.invariant
+
+pub returns-in-Heal : goal.returns-in-Heal
+returns-in-Heal g c =
+    let none = not_some c.self.inside.refused c.is_some.result c.is_some.ensures c.if-is_some.false in
+    all_act c.self.inside.set (vec_capacity c.self.inside.disks) c.self.inside.shards c.heal_each.new.shards c.self.inside.refused c.self.inside.disks.items
+    (same_healed g c) c.self.invariant none g.D.Disk.view
+    c.args.self.now c.args.command.now command.Heal c.args.now c.heal_reply.result c.self.view_is c.in-Heal.is
+    (heal_acts g.D.Disk.view g.met.D.Disk.is_disk c.heal_each.result c.self.inside.shards.items c.heal_each.new.shards c.args.now c.heal_reply.result (healed g c) c.heal_reply.ensures)
 
 -- ---- a defragmentation
 
