@@ -276,7 +276,7 @@ lies_in_own {o = o} {set = set} {events = events} {shelf = shelf} over hub part 
 module _ {D : Type 0} {view : D → DiskView} {o : Opening D} where
   -- the same event, of which something else is said
   said_so : {v w : LiveView D} {Said Other : Event → Type 0} (by : AnswersBy view o v w Said) → Other by.event → AnswersBy view o v w Other
-  said_so by said = record { past = by.past; event = by.event; said = said; begins = by.begins; last = by.last; right = by.right }
+  said_so by said = record { past = by.past; event = by.event; said = said; begins = by.begins; last = by.last; left = by.left; right = by.right }
 
   pub found_gone : (v w : LiveView D) (part block : ℕ) (digest : Digest) (there : Bool) (by : AnswersBy view o v w (Is (move_call digest block) (Answers (Ok there))))
       → is_in_block block (live_of digest (state_at o by.past).book.live) ≡ true → MovesFirst view o v w part block (Ok there)

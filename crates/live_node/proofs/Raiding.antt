@@ -8,12 +8,13 @@ use Rattle.disk_model.specs.Disk.{DiskView}
 use Rattle.rec_format.specs.declared.version.Digest.{Digest}
 use Rattle.model_device.specs.Book.{Setup}
 use Rattle.model_device.specs.Device.{State, Turn, mark_turn, scan_turn, apply_turn, drop_turn, finished, history}
-use Rattle.model_device.specs.Steps.{Step, part_total, raid_given_up, raid_at_end, after_step, after_steps}
+use Rattle.model_device.specs.Steps.{Step, part_total, raid_given_up, after_step, after_steps}
 use Rattle.model_device.specs.Events.{Event, Call, turn_call, refused, stale, damaged, disk_fault, after_event}
 use Rattle.model_device.specs.Legal.{Allowed, Only, TurnEnds, same_turn}
 use Rattle.model_device.specs.Passes.{part_named, turn_part}
 use Rattle.law_start.proofs.Turns.{same_turn_is}
 use Rattle.law_facts.specs.Facts.{Possible, HasFacts}
+use Rattle.law_refused.specs.Refusals.{GivesUp}
 use Rattle.law_raid.specs.Exact.{RaidSpares}
 use Rattle.law_raid.proofs.Spares.{others_keep, drop_spares}
 use Rattle.raid_book.specs.declared.turn.RaidNext.{RaidNext}
@@ -225,9 +226,9 @@ module _ {D : Type 0} (view : D → DiskView) (o : Opening D) (before after : Li
     taken_turn of (inl next) = next
     taken_turn of (inr other) = absurd (other_is other.0 of)
 
-    gives_up : IsOfTurn refusal → t.raid ≡ raid_at_end s.raid
+    gives_up : IsOfTurn refusal → GivesUp s t
     unfolding after_step
-    gives_up of = ap (λ (x : State). x.raid) (after_are (raid_given_up ∷ []) (taken_by of ended).2)
+    gives_up of = after_are (raid_given_up ∷ []) (taken_by of ended).2
 
   stays : (number : ℕ) (next : RaidNext) → result ≡ Err (Stale number next) → Ends setup s event now false old → t ≡ s
   stays number next is (inl taken) = absurd (turn_is (Stale number next) is taken.0)

@@ -8,6 +8,7 @@ use Rattle.model_device.specs.Book.{Setup}
 use Rattle.model_device.specs.Events.{Event, after_event, after_events}
 use Rattle.model_device.specs.Device.{State}
 use Rattle.model_device.specs.Legal.{IsLegal, Follows, Allowed, last_faults}
+use Rattle.law_refused.proofs.Leaving.{refused_leaves}
 use Rattle.turn_table.specs.declared.noted.Noted.{Noted}
 use Rattle.turn_table.specs.declared.rule.Entry.{Entry}
 use Rattle.turn_table.specs.Legal.{IsLegalAfter}
@@ -56,6 +57,17 @@ seen_begins v w begins = (
 -- What a pass knows of the table's opening it knows of the device's.
 pub opened_at : {D : Type 0} {table live : Live D} {known : Option (Opening D)} → table ≡ live → known ≡ Some (opening_at table) → known ≡ Some (opening_at live)
 opened_at same opened = opened ∙ ap (λ (l : Live _). Some (opening_at l)) same
+
+-- ---- the last event of a legal list
+
+legal_last : (setup : Setup) (told : Bool) (s : State) (faults : ℕ) (xs : List Event) (e : Event) → IsLegal setup told s faults (xs ++ e ∷ []) → Follows setup told (after_events setup xs s) (last_faults faults xs) e
+legal_last setup told s faults [] e legal = legal.0
+legal_last setup told s faults (x ∷ xs) e legal = legal_last setup told (after_event setup x s) x.faults_after xs e legal.1
+
+-- what a list shows of the event behind a beginning of it
+pub allowed_at : {D : Type 0} (view : D → DiskView) (o : Opening D) (past : List Event) (event : Event) → IsLegalFrom view o (past ++ event ∷ [])
+    → Allowed (setup_at o) false (state_at o past) event event.call
+allowed_at view o past event legal = (legal_last (setup_at o) false o.state (view o.shelf.disk).faults past event legal.any).allowed
 
 -- ---- what a call shows
 
@@ -111,6 +123,8 @@ module _ {D : Type 0} (view : D → DiskView) (o : Opening D) where
       said = said;
       begins = prefix_here (seen_by v);
       last = seen_more v w n entered;
+      left = refused_leaves (setup_at o) false (state_at o (seen_by v)) (event_in n) (allowed_at view o (seen_by v) (event_in n)
+          (subst (IsLegalFrom view o) (seen_more v w n entered) (right_by v w (event_in n ∷ []) sees opening (own_more v w n entered)).legal));
       right = right_by v w (event_in n ∷ []) sees opening (own_more v w n entered);
     },
     refl,
@@ -126,6 +140,7 @@ module _ {D : Type 0} (view : D → DiskView) (o : Opening D) where
       said = by.said;
       begins = prefix_on (seen_by u) (seen_by v) by.past (seen_begins u v before.seen) by.begins;
       last = seen ∙ by.last;
+      left = by.left;
       right = right_then u w x (by.event ∷ []) [] (right_then u v w [] (by.event ∷ []) before by.right) after;
     },
     refl,
@@ -140,21 +155,13 @@ module _ {D : Type 0} (view : D → DiskView) (o : Opening D) where
       said = by.said;
       begins = prefix_on (seen_by u) (seen_by v) by.past (seen_begins u v before.seen) by.begins;
       last = by.last;
+      left = by.left;
       right = right_then u v w [] (by.event ∷ []) before by.right;
     },
     refl,
   )
 
--- ---- the last event of a legal list
-
-legal_last : (setup : Setup) (told : Bool) (s : State) (faults : ℕ) (xs : List Event) (e : Event) → IsLegal setup told s faults (xs ++ e ∷ []) → Follows setup told (after_events setup xs s) (last_faults faults xs) e
-legal_last setup told s faults [] e legal = legal.0
-legal_last setup told s faults (x ∷ xs) e legal = legal_last setup told (after_event setup x s) x.faults_after xs e legal.1
-
--- what a list shows of the event behind a beginning of it
-pub allowed_at : {D : Type 0} (view : D → DiskView) (o : Opening D) (past : List Event) (event : Event) → IsLegalFrom view o (past ++ event ∷ [])
-    → Allowed (setup_at o) false (state_at o past) event event.call
-allowed_at view o past event legal = (legal_last (setup_at o) false o.state (view o.shelf.disk).faults past event legal.any).allowed
+-- ---- the event of a call
 
 module _ {D : Type 0} {view : D → DiskView} {o : Opening D} {v w : LiveView D} {Said : Event → Type 0} (by : AnswersBy view o v w Said) where
   legal_here : IsLegalFrom view o (by.past ++ by.event ∷ [])

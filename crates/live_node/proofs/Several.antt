@@ -4,7 +4,9 @@ use Rattle.std.proofs.lemmas.List.{map-append}
 use mathlib.Core.List.{IsPrefix}
 use Rattle.disk_model.specs.Disk.{DiskView}
 use Rattle.model_device.specs.Events.{Event}
-use Rattle.live_node.specs.Opening.{Opening}
+use Rattle.law_lists.proofs.Each.{all_joined}
+use Rattle.law_refused.specs.Refusals.{RefusedLeaves}
+use Rattle.live_node.specs.Opening.{Opening, setup_at, state_at}
 use Rattle.live_node.specs.Calls.{LiveView, seen_by, own_of, IsRight, AnswersBy}
 use Rattle.live_node.specs.Several.{Placed, placed_events, AreInTurn, Shows}
 use Rattle.live_node.proofs.Right.{prefix_here, prefix_on, seen_begins, right_then}
@@ -26,18 +28,19 @@ module _ {D : Type 0} {view : D → DiskView} {o : Opening D} where
   right_here {w = w} right = record { seen = prefix_here w.seen; mine = sym (append-nil (own_of w)); legal = right.legal; own = right.own }
 
   pub shows_none : {v w : LiveView D} → IsRight view o v w [] → Shows view o v w []
-  shows_none {v = v} {w = w} right = record { right = right; turns = seen_begins v w right.seen }
+  shows_none {v = v} {w = w} right = record { right = right; turns = seen_begins v w right.seen; left = tt }
 
   pub placed_by : {v w : LiveView D} {Said : Event → Type 0} → AnswersBy view o v w Said → Placed
   placed_by by = record { past = by.past; event = by.event }
 
   pub shows_one : {v w : LiveView D} {Said : Event → Type 0} (by : AnswersBy view o v w Said) → Shows view o v w (record { past = by.past; event = by.event } ∷ [])
-  shows_one by = record { right = by.right; turns = (by.begins, ([], append-nil (by.past ++ by.event ∷ []) ∙ sym by.last)) }
+  shows_one by = record { right = by.right; turns = (by.begins, ([], append-nil (by.past ++ by.event ∷ []) ∙ sym by.last)); left = (by.left, tt) }
 
   pub shows_then : {u v w : LiveView D} (xs ys : List Placed) → Shows view o u v xs → Shows view o v w ys → Shows view o u w (xs ++ ys)
   shows_then {u = u} {v = v} {w = w} xs ys first then = record {
     right = subst (IsRight view o u w) (sym (events_joined xs ys)) (right_then view o u v w (placed_events xs) (placed_events ys) first.right then.right);
     turns = turns_then (seen_by u) (seen_by v) (seen_by w) xs ys first.turns then.turns;
+    left = all_joined (λ (p : Placed). RefusedLeaves (setup_at o) (state_at o p.past) p.event) xs ys first.left then.left;
   }
 
   -- some events, and then what entered nothing
@@ -50,4 +53,5 @@ module _ {D : Type 0} {view : D → DiskView} {o : Opening D} where
     right = subst (IsRight view o u x) (append-nil (placed_events xs))
         (right_then view o u w x (placed_events xs) [] (right_then view o u v w [] (placed_events xs) before shows.right) after);
     turns = subst (AreInTurn (seen_by u) xs) (sym seen) (turns_behind (seen_by u) (seen_by v) (seen_by w) xs (seen_begins u v before.seen) shows.turns);
+    left = shows.left;
   }

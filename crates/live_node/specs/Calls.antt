@@ -4,10 +4,11 @@ use mathlib.Core.List.{IsPrefix}
 use Rattle.disk_model.specs.Disk.{DiskView}
 use Rattle.model_device.specs.Events.{Event, Call, Answer}
 use Rattle.model_device.specs.Legal.{IsLegal}
+use Rattle.law_refused.specs.Refusals.{RefusedLeaves}
 use Rattle.turn_table.specs.declared.noted.Noted.{Noted}
 use Rattle.turn_table.specs.declared.rule.View.{View}
 use Rattle.turn_table.specs.Rule.{events, events_by}
-use Rattle.live_node.specs.Opening.{Opening, setup_at, WasSafe}
+use Rattle.live_node.specs.Opening.{Opening, setup_at, state_at, WasSafe}
 use Rattle.live_node.specs.Fits.{PartEvent, Is}
 use Rattle.live_node.specs.Notes.{events_in}
 
@@ -37,13 +38,14 @@ pub record IsRight {D : Type 0} (view : D → DiskView) (o : Opening D) (before 
   pub own : events_by after.first after.seen ≡ after.mine
 
 -- A call of one event, of which this is said. It is the last of the list that the pass has then seen; those before it go on from what it had
--- seen.
+-- seen. Where it was refused the state after it is the one before it, but for what its kind and its cause name (`Leaves`).
 pub record AnswersBy {D : Type 0} (view : D → DiskView) (o : Opening D) (before after : LiveView D) (Said : Event → Type 0) : Type 0 where
   pub past : List Event
   pub event : Event
   pub said : Said event
   pub begins : IsPrefix (seen_by before) past
   pub last : seen_by after ≡ past ++ event ∷ []
+  pub left : RefusedLeaves (setup_at o) (state_at o past) event
   pub right : IsRight view o before after (event ∷ [])
 
 -- it answers what the event answers

@@ -3,7 +3,7 @@ use Rattle.std.specs.Prelude.{◌≡◌, ℕ, List, Result, Err, IfOk, IfErr, On
 use Rattle.model_faults.specs.Counts.{Rose}
 use Rattle.disk_model.specs.Disk.{DiskView}
 use Rattle.model_device.specs.Device.{State}
-use Rattle.model_device.specs.Steps.{raid_at_end}
+use Rattle.law_refused.specs.Refusals.{GivesUp}
 use Rattle.model_device.specs.Events.{Event, turn_call}
 use Rattle.law_raid.specs.Exact.{RaidSpares}
 use Rattle.raid_book.specs.declared.turn.RaidNext.{RaidNext}
@@ -33,12 +33,12 @@ pub record IsStale (s : State) (result : Result RaidDid RaidRefusal) : Type 0 wh
   pub is_told : result ≡ Err (Stale told.number told.next)
   pub is_next : IsNextIn told s
 
--- a stale turn changes nothing; after any other refusal the raid is given up
+-- a stale turn changes nothing; after any other refusal the raid is given up, with all its marks and what it found, and nothing else has changed
 abbrev pub LeavesOff : (before after : State) → RaidRefusal → Type 0
 LeavesOff before after (Stale number next) = after ≡ before
-LeavesOff before after (Damaged block place) = after.raid ≡ raid_at_end before.raid
-LeavesOff before after Memory = after.raid ≡ raid_at_end before.raid
-LeavesOff before after Fault = after.raid ≡ raid_at_end before.raid
+LeavesOff before after (Damaged block place) = GivesUp before after
+LeavesOff before after Memory = GivesUp before after
+LeavesOff before after Fault = GivesUp before after
 
 -- but for a stale turn only the scan of a block is refused, and damage is told of that block
 abbrev pub IsOfScan : RaidNext → RaidRefusal → Type 0

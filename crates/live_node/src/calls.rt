@@ -22,7 +22,8 @@ use std::sync::Wait;
 impl<D: Disk> Live<D> {
     /// Writes a version of a record, as `Shard::put` does, and answers its stamp. `ttl` is in seconds from `now`, 0 for never; `now` is in
     /// milliseconds; `expect` is the generation that has to be seen, 0 for no record. It is one event of the device; with commit on what it wrote
-    /// is flushed in the state after it.
+    /// is flushed in the state after it. A refusal leaves the state before it, but that after a `Fault` the first free block may be at the back, or
+    /// with commit on the version stands unflushed, as `Shard::put` has it.
     pub fn put<R: Wait>(
         &self,
         alloc: Global,
@@ -55,7 +56,8 @@ impl<D: Disk> Live<D> {
         self.turn(alloc, rt, pass, part, &put)
     }
 
-    /// The record that is seen of a digest at `now`, in milliseconds, as `Shard::get` answers it. It is one event of the device.
+    /// The record that is seen of a digest at `now`, in milliseconds, as `Shard::get` answers it. It is one event of the device, and leaves the
+    /// state before it, refused or not.
     pub fn get<R: Wait>(
         &self,
         alloc: Global,
@@ -76,7 +78,7 @@ impl<D: Disk> Live<D> {
     }
 
     /// Deletes a record, as `Shard::delete` does, and answers whether one was seen at `now`, in milliseconds. It is one event of the device; with
-    /// commit on its tombstone, if it wrote one, is flushed in the state after it.
+    /// commit on its tombstone, if it wrote one, is flushed in the state after it. What a refusal leaves is as with `put`.
     pub fn delete<R: Wait>(
         &self,
         alloc: Global,
@@ -98,7 +100,7 @@ impl<D: Disk> Live<D> {
     }
 
     /// Deletes a digest durably, as `Shard::bury` does, and answers the stamp of its tombstone. It is one event of the device; with commit on the
-    /// tombstone is flushed in the state after it.
+    /// tombstone is flushed in the state after it. What a refusal leaves is as with `put`.
     pub fn bury<R: Wait>(
         &self,
         alloc: Global,

@@ -42,7 +42,7 @@ impl EventCall for Choice {
 impl<D: Disk> Live<D> {
     /// Chooses the block that has waited longest, where one waits and vacating it gains room, and lists the digests of its records. That is
     /// one event of the device; else none is chosen, nothing is listed, and there is no event. A worker that is given a block moves its
-    /// records out of it by `move_record`.
+    /// records out of it by `move_record`. A refusal leaves the state before it, and nothing is listed.
     pub fn choose_gaining<R: Wait>(
         &self,
         rt: &R,

@@ -65,7 +65,8 @@ impl<'a, D: Disk> Step<D> for Expire<'a> {
 
 impl<D: Disk> Live<D> {
     /// Removes the entries of a part that are expired at `now`, in milliseconds, in digest order, as `Shard::expire_part` does, and answers how
-    /// many. The pass has the part through all of it, and takes the shelf for each entry: each removal is one event of the device.
+    /// many. The pass has the part through all of it, and takes the shelf for each entry: each removal is one event of the device. At a refusal
+    /// those before it stay removed, and that one leaves what a refused `delete` leaves.
     pub fn expire_part<R: Wait>(
         &self,
         alloc: Global,
@@ -89,7 +90,7 @@ impl<D: Disk> Live<D> {
     }
 
     /// Removes the first entry of a part that is expired at `now`, in milliseconds, in digest order. That is one event of the device; it
-    /// answers false where none is expired, and there is no event then.
+    /// answers false where none is expired, and there is no event then. What a refusal leaves is as with `delete`.
     pub fn expire_next<R: Wait>(
         &self,
         alloc: Global,

@@ -100,7 +100,7 @@ impl<D: Disk> HubStep<D> for FlushOne {
 
 impl<D: Disk> Live<D> {
     /// Seals the buffers that are being filled, and flushes all that is sealed, in rising number, as `Shard::flush` does. It is one event of
-    /// the device.
+    /// the device. After a fault those are sealed, those before the one that failed are flushed, and the others wait.
     pub fn flush<R: Wait>(&self, rt: &R, pass: &mut LivePass<D>) -> Result<u64, DiskFault>
         requires pass { IsPassAt self.now pass.old }
         ensures pass { IsPassAt self.now pass.new }
@@ -111,7 +111,8 @@ impl<D: Disk> Live<D> {
     }
 
     /// Seals what is due where few blocks are free, and flushes the sealed buffer of the lowest number, if there is one: it answers 1, or 0
-    /// where none was sealed. So a flusher gives the shelf back between any two buffers. It is one event of the device.
+    /// where none was sealed. So a flusher gives the shelf back between any two buffers. It is one event of the device. After a fault what was
+    /// due is sealed, and the buffer waits.
     pub fn flush_next<R: Wait>(&self, rt: &R, pass: &mut LivePass<D>) -> Result<u64, DiskFault>
         requires pass { IsPassAt self.now pass.old }
         ensures pass { IsPassAt self.now pass.new }

@@ -10,6 +10,7 @@ mod choose;
 mod enter;
 mod expire;
 mod flush;
+mod heal;
 mod hub;
 mod live;
 mod looks;

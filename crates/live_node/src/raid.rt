@@ -71,7 +71,7 @@ impl EventCall for Turn {
 }
 
 impl<D: Disk> Live<D> {
-    /// Begins a raid, as `Shard::raid_begin` does. It is one event of the device.
+    /// Begins a raid, as `Shard::raid_begin` does. It is one event of the device; where none begins nothing changes.
     pub fn raid_begin<R: Wait>(&self, rt: &R, pass: &mut LivePass<D>) -> Option<Raid>
         requires pass { IsPassAt self.now pass.old }
         ensures pass { IsPassAt self.now pass.new }
@@ -87,7 +87,8 @@ impl<D: Disk> Live<D> {
     /// # Errors
     ///
     /// Another raid has begun since, or it was given up, or somebody else took its turn: it is stale, changes nothing, and the handle stays.
-    /// After any other refusal, which only the scan of a block has, the raid is given up.
+    /// After any other refusal, which only the scan of a block has, the raid is given up, with its marks and what it found, and nothing else
+    /// has changed.
     pub fn raid_step<R: Wait>(
         &self,
         alloc: Global,

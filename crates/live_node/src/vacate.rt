@@ -75,7 +75,8 @@ impl<D: Disk> Live<D> {
     }
 
     /// Moves the record of a digest of the device out of a block, and answers whether it lay there; where it has left the block, or was
-    /// written over, nothing is moved. It is one event of the device.
+    /// written over, nothing is moved. It is one event of the device. A refusal leaves the state before it, but that after a `Fault` the first free
+    /// block, whose gate couldn't be closed, may be at the back of the free ones.
     pub fn move_record<R: Wait>(
         &self,
         alloc: Global,
@@ -104,7 +105,8 @@ impl<D: Disk> Live<D> {
     /// Vacates the block that has waited longest, as `Shard::defrag_one` does, and answers it and how many records were moved; none where no
     /// block waited. Where it answers a block each record that was live in it has left it since, whatever the disk. The choice and each move
     /// are events of the device of their own, and other passes' events may come between them. It takes the list that it is lent for the
-    /// digests of the block's records, which has room for them.
+    /// digests of the block's records, which has room for them. At a refusal the records before it stay moved, and what it leaves is as with
+    /// `move_record`.
     pub fn defrag_one<R: Wait>(
         &self,
         alloc: Global,
@@ -133,7 +135,8 @@ impl<D: Disk> Live<D> {
     }
 
     /// Makes room, as `Shard::tend` does, and answers nothing: it flushes what is sealed, and vacates the block that has waited longest where
-    /// that can gain room, whatever comes of either.
+    /// that can gain room, whatever comes of either. What was done before a refusal stands, and what that leaves is as with `flush` and
+    /// `move_record`.
     pub fn tend<R: Wait>(
         &self,
         alloc: Global,

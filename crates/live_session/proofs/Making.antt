@@ -4,7 +4,7 @@ use Rattle.std.specs.Prelude.{◌⊎◌, Some, slice_get}
 use Rattle.std.proofs.lemmas.Bool.{cases_eq}
 use Rattle.law_lists.proofs.Places.{place_there, set_other}
 use Rattle.disk_model.specs.Disk.{DiskView}
-use Rattle.model_device.specs.Events.{Event}
+use Rattle.model_device.specs.Events.{Event, Call, flush_call, heal_call}
 use Rattle.model_device.specs.Vacating.{Outcome, did, stopped}
 use Rattle.line_proto.specs.declared.command.Command.{Command}
 use Rattle.line_proto.specs.declared.command.Command.TheVariants as command
@@ -15,7 +15,7 @@ use Rattle.live_node.specs.Several.{placed_events}
 use Rattle.live_node.proofs.Right.{right_then}
 use Rattle.live_store.specs.Pairs.{EachPair}
 use Rattle.live_store.specs.Known.{Known, SameDevice}
-use Rattle.live_store.specs.Works.{RepliesOn, Flushes, Defragments, Expires, VacatesUpTo, SweepsFrom, LooksAt, CallsOne, EachDevice, Carries}
+use Rattle.live_store.specs.Works.{RepliesOn, CountsOnce, Flushes, Heals, Defragments, Expires, VacatesUpTo, SweepsFrom, LooksAt, CallsOne, EachDevice, Carries}
 use Rattle.live_session.specs.Lines.{MakesOn, MakesAt}
 
 -- what makes some events
@@ -38,6 +38,7 @@ module _ {D : Type 0} (view : D → DiskView) where
   replies_made (command.Del digest) now r old new does = (does.once.event ∷ [], inr does.once.right)
   replies_made (command.Bury digest) now r old new does = (does.once.event ∷ [], inr does.once.right)
   replies_made command.Flush now r old new does = absurd does
+  replies_made command.Heal now r old new does = absurd does
   replies_made command.Defrag now r old new does = absurd does
   replies_made command.Expire now r old new does = absurd does
   replies_made command.Raid now r old new does = absurd does
@@ -45,8 +46,8 @@ module _ {D : Type 0} (view : D → DiskView) where
   replies_made command.Restart now r old new does = absurd does
   replies_made command.Quit now r old new does = absurd does
 
-  flush_made : (old new : Known D) (outcome : Outcome) → Flushes view old new outcome → Made view old.opening old.pass new.pass
-  flush_made old new outcome does = (does.once.event ∷ [], inr does.once.right)
+  count_made : (call : Call) (old new : Known D) (outcome : Outcome) → CountsOnce view call old new outcome → Made view old.opening old.pass new.pass
+  count_made call old new outcome does = (does.once.event ∷ [], inr does.once.right)
 
   vacates_made : (o : Opening D) (most moved vacated : ℕ) (before after : LiveView D) (outcome : Outcome) → VacatesUpTo view o most moved vacated before after outcome → Made view o before after
   vacates_made o zero moved vacated before after outcome does = none_made o before after does.0
@@ -149,7 +150,8 @@ module _ {D : Type 0} (view : D → DiskView) where
   carries_makes device olds (command.Meta digest) now r news there same does = one_makes _ (replies_made (command.Meta digest) now r) device _ olds news there same does
   carries_makes device olds (command.Del digest) now r news there same does = one_makes _ (replies_made (command.Del digest) now r) device _ olds news there same does
   carries_makes device olds (command.Bury digest) now r news there same does = one_makes _ (replies_made (command.Bury digest) now r) device _ olds news there same does
-  carries_makes device olds command.Flush now r news there same does = each_makes (Flushes view) flush_made device olds news 0 0 does.outcome there same does.works
+  carries_makes device olds command.Flush now r news there same does = each_makes (Flushes view) (count_made flush_call) device olds news 0 0 does.outcome there same does.works
+  carries_makes device olds command.Heal now r news there same does = each_makes (Heals view) (count_made heal_call) device olds news 0 0 does.outcome there same does.works
   carries_makes device olds command.Defrag now r news there same does = each_makes (Defragments view) defrag_made device olds news 0 0 does.outcome there same does.works
   carries_makes device olds command.Expire now r news there same does = each_makes (Expires view now) (expire_made now) device olds news 0 0 does.outcome there same does.works
   carries_makes device olds command.Raid now r news there same does = none_makes device olds news there does.0

@@ -19,9 +19,9 @@ use Rattle.line_proto.specs.declared.command.Command.TheVariants as command
 use Rattle.line_proto.specs.declared.reply.Reply.{Reply}
 use Rattle.line_proto.specs.declared.reply.Reply.TheVariants as reply
 use Rattle.line_proto.specs.declared.reply.LineFault.TheVariants as why
-use Rattle.model_node.specs.Commands.{flushed_reply, defragged_reply, expired_reply}
+use Rattle.model_node.specs.Commands.{flushed_reply, healed_reply, defragged_reply, expired_reply}
 use Rattle.node_replies.specs.Digests.{digest_of}
-use Rattle.node_replies.specs.Outcomes.{IsFlushed, IsDefragged, IsExpired}
+use Rattle.node_replies.specs.Outcomes.{IsFlushed, IsHealed, IsDefragged, IsExpired}
 use Rattle.live_node.specs.Lives.{Live, LivePass}
 use Rattle.live_store.specs.Known.{Known, ArePasses, KeepNumbers, known_of, known_each}
 use Rattle.live_store.specs.Works.{RepliesOn, CallsOne, Carries}
@@ -43,6 +43,7 @@ module _ {D : Type 0} (view : D → DiskView) (olds news : List (Known D)) (now 
   carries_one (command.Del d) is calls = subst (CallsFor (command.Del d)) (sym (one_digest d digest is)) calls
   carries_one (command.Bury d) is calls = subst (CallsFor (command.Bury d)) (sym (one_digest d digest is)) calls
   carries_one command.Flush is calls = absurd cc
+  carries_one command.Heal is calls = absurd cc
   carries_one command.Defrag is calls = absurd cc
   carries_one command.Expire is calls = absurd cc
   carries_one command.Raid is calls = absurd cc
@@ -74,6 +75,11 @@ pub flushed_stays : (result : Result ℕ DiskFault) (outcome : Outcome) → IsFl
 flushed_stays (Ok n) outcome is = subst (λ (o : Outcome). Stays (flushed_reply o)) (sym is) ((λ e. absurd cc), (λ e. absurd cc), (λ e. absurd cc))
 flushed_stays (Err fault) outcome (c, is_cause, is) =
     subst (λ (o : Outcome). Stays (flushed_reply o)) (sym (is ∙ ap stopped is_cause)) ((λ e. absurd cc), (λ e. absurd cc), (λ e. absurd cc))
+
+pub healed_stays : (result : Result ℕ DiskFault) (outcome : Outcome) → IsHealed result outcome → Stays (healed_reply outcome)
+healed_stays (Ok n) outcome is = subst (λ (o : Outcome). Stays (healed_reply o)) (sym is) ((λ e. absurd cc), (λ e. absurd cc), (λ e. absurd cc))
+healed_stays (Err fault) outcome (c, is_cause, is) =
+    subst (λ (o : Outcome). Stays (healed_reply o)) (sym (is ∙ ap stopped is_cause)) ((λ e. absurd cc), (λ e. absurd cc), (λ e. absurd cc))
 
 pub expired_stays : (result : Result ℕ WriteRefusal) (outcome : Outcome) → IsExpired result outcome → Stays (expired_reply outcome)
 expired_stays (Ok n) outcome is = subst (λ (o : Outcome). Stays (expired_reply o)) (sym is) ((λ e. absurd cc), (λ e. absurd cc), (λ e. absurd cc))

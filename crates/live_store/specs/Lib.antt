@@ -1,4 +1,5 @@
 pub mod Pairs
 pub mod Known
 pub mod Works
+pub mod Upkeep
 pub mod Stores

@@ -6,7 +6,7 @@ use Rattle.rec_format.specs.declared.version.Digest.{Digest}
 use Rattle.rec_format.specs.Places.{device_number}
 use Rattle.model_device.specs.Device.{seen}
 use Rattle.model_device.specs.Steps.{part_total}
-use Rattle.model_device.specs.Events.{Call, put_call, get_call, delete_call, bury_call, flush_call, Answer, Cause}
+use Rattle.model_device.specs.Events.{Call, put_call, get_call, delete_call, bury_call, flush_call, heal_call, Answer, Cause, disk_fault}
 use Rattle.model_device.specs.Vacating.{Outcome, did, stopped}
 use Rattle.shard_core.specs.declared.defrag.Vacated.{Vacated}
 use Rattle.shard_core.specs.declared.refusals.DefragRefusal.{DefragRefusal}
@@ -18,8 +18,8 @@ use Rattle.line_proto.specs.declared.command.Command.TheVariants as command
 use Rattle.line_proto.specs.declared.reply.Reply.{Reply}
 use Rattle.line_proto.specs.declared.reply.Reply.TheVariants as reply
 use Rattle.line_proto.specs.declared.reply.LineFault.TheVariants as why
-use Rattle.model_node.specs.Commands.{answer_reply, meta_reply, flushed_reply, defragged_reply, expired_reply, node_counts}
-use Rattle.node_replies.specs.Outcomes.{IsFlushed}
+use Rattle.model_node.specs.Commands.{answer_reply, meta_reply, flushed_reply, healed_reply, defragged_reply, expired_reply, node_counts}
+use Rattle.node_replies.specs.Outcomes.{EndsAs}
 use Rattle.node_replies.specs.Counts.{wrapped}
 use Rattle.live_node.specs.Opening.{Opening, setup_at, state_at}
 use Rattle.live_node.specs.Calls.{LiveView, seen_by, AnswersOnce, IsRight}
@@ -50,11 +50,21 @@ RepliesOn view (command.Del digest) now r old new = RepliesOnce view (delete_cal
 RepliesOn view (command.Bury digest) now r old new = RepliesOnce view (bury_call digest now) r old new
 RepliesOn view _ now r old new = ⊥
 
--- A flush is one event, and comes to what that answers.
-pub record Flushes {D : Type 0} (view : D → DiskView) (old new : Known D) (outcome : Outcome) : Type 0 where
-  pub flushed : Result ℕ DiskFault
-  pub once : AnswersOnce view old.opening old.pass new.pass flush_call (flush_answer flushed)
-  pub comes_to : IsFlushed flushed outcome
+-- so many were counted, or the disk failed
+abbrev pub IsCounted : Result ℕ DiskFault → Outcome → Type 0
+IsCounted counted outcome = EndsAs (λ n. (n, 0)) (λ fault cause. cause ≡ disk_fault) counted outcome
+
+-- A call of one event, which comes to the count that the event answers, or to its fault.
+pub record CountsOnce {D : Type 0} (view : D → DiskView) (call : Call) (old new : Known D) (outcome : Outcome) : Type 0 where
+  pub counted : Result ℕ DiskFault
+  pub once : AnswersOnce view old.opening old.pass new.pass call (flush_answer counted)
+  pub comes_to : IsCounted counted outcome
+
+abbrev pub Flushes : {D : Type 0} → (view : D → DiskView) → (old new : Known D) → Outcome → Type 0
+Flushes view = CountsOnce view flush_call
+
+abbrev pub Heals : {D : Type 0} → (view : D → DiskView) → (old new : Known D) → Outcome → Type 0
+Heals view = CountsOnce view heal_call
 
 -- At most so many blocks are vacated, one after another, until none waits or one is refused. Each sum goes around at 2^64.
 abbrev pub VacatesUpTo : {D : Type 0} → (view : D → DiskView) → Opening D → (most : ℕ) → (moved vacated : ℕ) → (before after : LiveView D) → Outcome → Type 0
@@ -129,6 +139,7 @@ Carries view olds (command.Meta digest) now r news = CallsOne (RepliesOn view (c
 Carries view olds (command.Del digest) now r news = CallsOne (RepliesOn view (command.Del digest) now r) (device_number (length olds) digest) olds news
 Carries view olds (command.Bury digest) now r news = CallsOne (RepliesOn view (command.Bury digest) now r) (device_number (length olds) digest) olds news
 Carries view olds command.Flush now r news = EachThen (Flushes view) flushed_reply olds r news
+Carries view olds command.Heal now r news = EachThen (Heals view) healed_reply olds r news
 Carries view olds command.Defrag now r news = EachThen (Defragments view) defragged_reply olds r news
 Carries view olds command.Expire now r news = EachThen (Expires view now) expired_reply olds r news
 Carries view olds command.Raid now r news = IsOtherMode olds r news

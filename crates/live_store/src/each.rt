@@ -3,13 +3,16 @@ ghost use Rattle.std.specs.Prelude.{◌≡◌, ◌≤◌, ◌^◌, length, map, 
 ghost use Rattle.model_device.specs.Steps.{part_total};
 ghost use Rattle.model_device.specs.Vacating.{Outcome};
 ghost use Rattle.model_node.specs.Commands.{node_counts};
-ghost use Rattle.turn_table.specs.Passes.{KeepsNumbers};
-ghost use Rattle.node_replies.specs.Outcomes.{IsDefragged, IsExpired, IsFlushed};
+ghost use Rattle.turn_table.specs.Passes.{view, KeepsNumbers};
+ghost use Rattle.shard_core.specs.Calls.{flush_answer};
+ghost use Rattle.node_replies.specs.Outcomes.{IsDefragged, IsExpired};
+ghost use Rattle.live_node.specs.Calls.{AnswersOnce};
 ghost use Rattle.live_node.specs.Lives.{opening_at, IsPassAt};
 ghost use Rattle.live_node.specs.Vacates.{HasListRoom};
 ghost use Rattle.live_store.specs.Pairs.{EachPair};
 ghost use Rattle.live_store.specs.Known.{AreDevices, ArePasses, KeepNumbers, known_each, known_of, slot_of};
-ghost use Rattle.live_store.specs.Works.{Flushes, Defragments, Expires, LooksAt, EachDevice};
+ghost use Rattle.live_store.specs.Works.{IsCounted, CountsOnce, Defragments, Expires, LooksAt, EachDevice};
+ghost use Rattle.live_store.specs.Upkeep.{call_of};
 
 use disk_model::{Disk, DiskFault};
 use live_node::{Live, LivePass};
@@ -19,8 +22,36 @@ use shard_core::{DefragCause, WriteRefusal};
 use std::alloc::Global;
 use std::sync::Wait;
 
-// Flushes each device, in order, and answers how many buffers. It stops at the first that fails.
-pub(crate) fn flush_each<D: Disk, R: Wait>(
+/// What is asked of each device, which answers a count.
+#[derive(Clone, Copy)]
+pub(crate) enum Upkeep {
+    /// How many buffers it flushed.
+    Flush,
+    /// How many unsure gates it closed.
+    Heal,
+}
+
+// Asks it of one device.
+fn keep_up<D: Disk, R: Wait>(
+    upkeep: Upkeep,
+    rt: &R,
+    live: &Live<D>,
+    pass: &mut LivePass<D>,
+) -> Result<u64, DiskFault>
+    requires pass { IsPassAt live.now pass.old }
+    ensures pass { IsPassAt live.now pass.new }
+    ensures numbers { KeepsNumbers pass.old pass.new }
+    ensures once { AnswersOnce D.view (opening_at live.now) (view pass.old) (view pass.new) (call_of upkeep) (flush_answer result) }
+{
+    match upkeep {
+        Upkeep::Flush => live.flush(rt, pass),
+        Upkeep::Heal => live.heal(rt, pass),
+    }
+}
+
+// Asks it of each device, in order, and answers the sum. It stops at the first that fails.
+pub(crate) fn keep_up_each<D: Disk, R: Wait>(
+    upkeep: Upkeep,
     rt: &R,
     lives: &[Live<D>],
     passes: &mut [LivePass<D>],
@@ -28,16 +59,16 @@ pub(crate) fn flush_each<D: Disk, R: Wait>(
     requires passes { ArePasses lives.now passes.old }
     ensures passes { ArePasses lives.now passes.new }
     ensures numbers { KeepNumbers passes.old passes.new }
-    ensures flushes { (outcome : Outcome) × IsFlushed result outcome × EachDevice (Flushes D.view) (known_each lives.now passes.old) (known_each lives.now passes.new) 0 0 outcome }
+    ensures counts { (outcome : Outcome) × IsCounted result outcome × EachDevice (CountsOnce D.view (call_of upkeep)) (known_each lives.now passes.old) (known_each lives.now passes.new) 0 0 outcome }
 {
-    let mut flushed: u64 = 0;
+    let mut sum: u64 = 0;
     for (device, live) in lives.iter().enumerate() {
-        match live.flush(rt, &mut passes[device]) {
-            Ok(buffers) => flushed = flushed.wrapping_add(buffers),
+        match keep_up(upkeep, rt, live, &mut passes[device]) {
+            Ok(count) => sum = sum.wrapping_add(count),
             Err(fault) => return Err(fault),
         }
     }
-    Ok(flushed)
+    Ok(sum)
 }
 
 // Vacates blocks of a device, one after another, until none waits, or as many are vacated as waited at its start. Answers how many records

@@ -6,12 +6,12 @@ ghost use Rattle.live_node.specs.Lives.{IsPassAt};
 ghost use Rattle.live_store.specs.Pairs.{EachPair-prop};
 ghost use Rattle.live_store.specs.Known.{AreDevices, ArePasses};
 
-use crate::each::{counts_each, defrag_each, expire_each, flush_each};
+use crate::each::{Upkeep, counts_each, defrag_each, expire_each, keep_up_each};
 use crate::one::act_on;
-use disk_model::Disk;
+use disk_model::{Disk, DiskFault};
 use line_proto::{Command, LineFault, Reply, Store};
 use live_node::{Live, LivePass};
-use node_replies::{defrag_reply, digest_of, expire_reply, flush_reply};
+use node_replies::{defrag_reply, digest_of, expire_reply, flush_reply, heal_reply};
 use partition_map::device_of;
 use rec_format::Digest;
 use std::alloc::Global;
@@ -66,6 +66,24 @@ impl<'a, D: Disk, R> LiveStore<'a, D, R> {
     }
 }
 
+impl<'a, D: Disk, R: Wait> LiveStore<'a, D, R> {
+    ghost use Rattle.std.specs.Prelude.{◌≡◌};
+    ghost use Rattle.model_device.specs.Vacating.{Outcome};
+    ghost use Rattle.live_store.specs.Known.{KeepNumbers};
+    ghost use Rattle.live_store.specs.Works.{IsCounted, CountsOnce, EachDevice};
+    ghost use Rattle.live_store.specs.Upkeep.{call_of};
+    ghost use Rattle.live_store.specs.Stores.{lives_of, passes_of, known_by};
+
+    // Asks it of each device, in order, with the store's passes.
+    fn keep_up(&mut self, upkeep: Upkeep) -> Result<u64, DiskFault>
+        ensures lives { lives_of self.new ≡ lives_of self.old }
+        ensures numbers { KeepNumbers (passes_of self.old) (passes_of self.new) }
+        ensures counts { (outcome : Outcome) × IsCounted result outcome × EachDevice (CountsOnce D.view (call_of upkeep)) (known_by self.old) (known_by self.new) 0 0 outcome }
+    {
+        keep_up_each(upkeep, self.rt, self.lives, &mut self.passes)
+    }
+}
+
 impl<'a, D: Disk, R: Wait> Store for LiveStore<'a, D, R> {
     ghost use Rattle.std.specs.Prelude.{◌≡◌};
     ghost use Rattle.live_store.specs.Stores.{Acts};
@@ -88,7 +106,8 @@ impl<'a, D: Disk, R: Wait> Store for LiveStore<'a, D, R> {
             );
         }
         match command {
-            Command::Flush => flush_reply(flush_each(self.rt, self.lives, &mut self.passes)),
+            Command::Flush => flush_reply(self.keep_up(Upkeep::Flush)),
+            Command::Heal => heal_reply(self.keep_up(Upkeep::Heal)),
             Command::Defrag => defrag_reply(defrag_each(
                 alloc,
                 self.rt,

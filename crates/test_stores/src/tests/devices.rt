@@ -5,7 +5,7 @@ ghost use Rattle.shard_core.specs.View.{IsSettings};
 ghost use Rattle.test_stores.specs.Trials.{IsMade, IsFirst, IsBeside, IsShare, IsShard, HasRoom, trial_settings};
 
 use block_format::Geometry;
-use disk_model::MemDisk;
+use disk_model::{DiskCall, MemDisk};
 use live_node::{Live, LivePass, Standing};
 use rec_format::{Counts, Digest};
 use shard_core::{Asked, Settings, Shard, format_disk};
@@ -126,6 +126,18 @@ fn listed(alloc: Global, live: Live<MemDisk>, pass: LivePass<MemDisk>) -> Option
     }
 }
 
+// The device of a formatted disk, under its table, and its list.
+fn made_over(alloc: Global, disk: MemDisk, device: u16, devices: u16) -> Option<NewDevice>
+    ensures made { IfSome result (λ made. IsMade device devices made.live) }
+    ensures first { IfSome result (λ made. IsFirst made.live made.pass) }
+    ensures room { IfSome result (λ made. HasRoom (vec_capacity made.list) made.live) }
+{
+    match opened(alloc, disk, device, devices) {
+        Some((live, pass)) => listed(alloc, live, pass),
+        None => None,
+    }
+}
+
 /// A new device of 8 blocks, this one of so many, under its table.
 pub fn make_device(alloc: Global, device: u16, devices: u16) -> Option<NewDevice>
     requires { (device < devices) × (devices ≤ 16) }
@@ -134,9 +146,19 @@ pub fn make_device(alloc: Global, device: u16, devices: u16) -> Option<NewDevice
     ensures room { IfSome result (λ made. HasRoom (vec_capacity made.list) made.live) }
 {
     let disk = formatted(alloc, device, devices)?;
-    match opened(alloc, disk, device, devices) {
-        Some((live, pass)) => listed(alloc, live, pass),
-        None => None,
+    made_over(alloc, disk, device, devices)
+}
+
+/// A new device of 8 blocks that is alone, whose disk fails the write behind so many, and no other.
+pub fn make_failing(alloc: Global, writes: u64) -> Option<NewDevice>
+    ensures made { IfSome result (λ made. IsMade 0 1 made.live) }
+    ensures first { IfSome result (λ made. IsFirst made.live made.pass) }
+    ensures room { IfSome result (λ made. HasRoom (vec_capacity made.list) made.live) }
+{
+    let mut disk = formatted(alloc, 0, 1)?;
+    match disk.fail_after(DiskCall::Write, writes) {
+        Ok(()) => made_over(alloc, disk, 0, 1),
+        Err(_) => None,
     }
 }
 

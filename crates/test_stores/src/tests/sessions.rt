@@ -5,7 +5,8 @@ ghost use Rattle.live_store.specs.Known.{EachLive};
 ghost use Rattle.test_stores.specs.Trials.{IsMade, IsFirst, IsBeside, IsShare, IsStoreOf, HasRoom};
 
 use crate::tests::devices::{
-    NewDevice, counts, ended, make_device, one_rejoined, rejoined, share, shares, unmade,
+    NewDevice, counts, ended, make_device, make_failing, one_rejoined, rejoined, share, shares,
+    unmade,
 };
 use crate::tests::stores::{both_given, given, over_one, over_two, seats};
 use disk_model::MemDisk;
@@ -61,21 +62,46 @@ fn serve<'a, R: Wait>(
     told(alloc, &client, ended)
 }
 
-// What a session over a new device writes.
-fn told_over_one<R: Wait>(rt: &R, alloc: Global, text: &[u8]) -> Option<Vec<u8>> {
-    let client = client_of(alloc, text)?;
-    let seats = seats(alloc, 1)?;
+// What a session over a device that is alone writes. The device is ended.
+fn told_over<R: Wait>(
+    rt: &R,
+    alloc: Global,
+    made: NewDevice,
+    seats: Vec<LivePass<MemDisk>>,
+    client: Client,
+) -> Option<Vec<u8>>
+    requires made { IsMade 0 1 made.live }
+    requires first { IsFirst made.live made.pass }
+    requires room { HasRoom (vec_capacity made.list) made.live }
+    requires seats { (seats.items ≡ []) × (1 ≤ vec_capacity seats) }
+{
     let NewDevice {
         live,
         mut pass,
         list,
-    } = make_device(alloc, 0, 1)?;
+    } = made;
     let one = share(&live, &mut pass);
     let mut store = over_one(rt, &live, seats, one, list);
     let told = serve(alloc, slice::from_ref(&live), &mut store, client);
     rejoined(&live, &mut pass, given(&live, store));
     ended(live, pass);
     told
+}
+
+// What a session over a new device writes.
+fn told_over_one<R: Wait>(rt: &R, alloc: Global, text: &[u8]) -> Option<Vec<u8>> {
+    let client = client_of(alloc, text)?;
+    let seats = seats(alloc, 1)?;
+    let made = make_device(alloc, 0, 1)?;
+    told_over(rt, alloc, made, seats, client)
+}
+
+// What a session over a new device writes whose disk fails the write behind so many.
+fn told_over_failing<R: Wait>(rt: &R, alloc: Global, text: &[u8], writes: u64) -> Option<Vec<u8>> {
+    let client = client_of(alloc, text)?;
+    let seats = seats(alloc, 1)?;
+    let made = make_failing(alloc, writes)?;
+    told_over(rt, alloc, made, seats, client)
 }
 
 // TwoDevices devices of a node, each with its first pass, and a list that can be lent to either.
@@ -360,6 +386,81 @@ fn a_raid_and_a_restart_are_of_another_mode(rt: HostRuntime) -> Result<(), Fail>
     assert_eq!(rt;
         told.as_slice(),
         b"err mode\nerr mode\nstat 0 0 0 8 0 0 0\n".as_slice()
+    );
+    Ok(())
+}
+
+// Each flush of eight writes a body and a gate, two writes. It frees the block of the put before, whose gate is open: the first of the 8 blocks comes
+// again at the ninth put, which closes that gate first, by the seventeenth write. That fails, so the gate is unsure, until a heal closes it.
+#[test]
+fn a_gate_that_failed_to_close_is_healed(rt: HostRuntime) -> Result<(), Fail> {
+    let text = b"put 000102030405060708090a0b0c0d0e0f10111213 0 * aa
+flush
+put 000102030405060708090a0b0c0d0e0f10111213 0 * aa
+flush
+put 000102030405060708090a0b0c0d0e0f10111213 0 * aa
+flush
+put 000102030405060708090a0b0c0d0e0f10111213 0 * aa
+flush
+put 000102030405060708090a0b0c0d0e0f10111213 0 * aa
+flush
+put 000102030405060708090a0b0c0d0e0f10111213 0 * aa
+flush
+put 000102030405060708090a0b0c0d0e0f10111213 0 * aa
+flush
+put 000102030405060708090a0b0c0d0e0f10111213 0 * aa
+flush
+put 000102030405060708090a0b0c0d0e0f10111213 0 * aa
+heal
+heal
+put 000102030405060708090a0b0c0d0e0f10111213 0 8 aa
+";
+    let Some(told) = told_over_failing(&rt, rt.alloc(), text, 16) else {
+        return Err(Fail::new("memory"));
+    };
+    assert_eq!(rt;
+        told.as_slice(),
+        b"ok 1 1000
+ok 1
+ok 2 1000
+ok 1
+ok 3 1000
+ok 1
+ok 4 1000
+ok 1
+ok 5 1000
+ok 1
+ok 6 1000
+ok 1
+ok 7 1000
+ok 1
+ok 8 1000
+ok 1
+err fault
+ok 1
+ok 0
+ok 9 1000
+"
+            .as_slice()
+    );
+    Ok(())
+}
+
+// The write of the gate fails, the second of the flush. The gate is unsure, but its buffer waits, so a heal leaves it to the next flush.
+#[test]
+fn the_gate_of_a_buffer_that_waits_is_left_to_its_flush(rt: HostRuntime) -> Result<(), Fail> {
+    let text = b"put 000102030405060708090a0b0c0d0e0f10111213 0 * aa
+flush
+heal
+flush
+heal
+";
+    let Some(told) = told_over_failing(&rt, rt.alloc(), text, 1) else {
+        return Err(Fail::new("memory"));
+    };
+    assert_eq!(rt;
+        told.as_slice(),
+        b"ok 1 1000\nerr fault\nok 0\nok 1\nok 0\n".as_slice()
     );
     Ok(())
 }

@@ -50,6 +50,7 @@ give_alone-requires-clause-made g c =
         is_answer = made.is_answer;
         follows = made.follows;
         told = made.told;
+        left = made.left;
         counted = made.counted;
         stands = made.stands.shelf_stands;
         placed = made.placed;

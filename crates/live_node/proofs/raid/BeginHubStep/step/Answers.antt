@@ -14,6 +14,7 @@ returns-clause-makes g c = λ setup s is stands.
         is_answer = made.is_answer;
         follows = made.follows;
         told = made.told;
+        left = made.left;
         counted = made.counted;
         stands = made.stands.shelf_stands;
         placed = made.placed;

@@ -9,9 +9,9 @@ use Rattle.line_proto.specs.declared.reply.LineFault.TheVariants as why
 use Rattle.turn_table.specs.Passes.{KeepsNumbers}
 use Rattle.live_node.specs.Lives.{Live, LivePass, IsPassAt}
 use Rattle.live_store.specs.Known.{AreDevices, KeepNumbers, known_each}
-use Rattle.live_store.specs.Works.{RepliesOn, Flushes, Defragments, Expires, EachDevice}
-use Rattle.live_store.specs.Stores.{Acts}
-use Rattle.live_store.proofs.Acting.{Stays, calls_one, carries_one, carries_all, numbers_all, seated_all, flushed_stays, defragged_stays, expired_stays}
+use Rattle.live_store.specs.Works.{RepliesOn, Defragments, Expires, EachDevice, Carries}
+use Rattle.live_store.specs.Stores.{Acts, known_by}
+use Rattle.live_store.proofs.Acting.{Stays, calls_one, carries_one, carries_all, numbers_all, seated_all, flushed_stays, healed_stays, defragged_stays, expired_stays}
 use Rattle.live_store.proofs.Pairs.{pairs_length, pair_at, pair_set, pair_then, pairs_same}
 use Rattle.live_store.proofs.store.LiveStoreStore.act.Goals as goal
 
@@ -91,23 +91,28 @@ invariant_of-self-in-Defrag g c =
 
 pub returns-in-Flush : goal.returns-in-Flush
 returns-in-Flush g c =
-    let e = c.flush_each.ensures in
-    let store = c.args.self.now in
-    let lives = store.lives.now in
-    let passes = store.passes.items in
-    let whole = store.passes.ok.0 in
-    let many = pairs_length IsPassAt lives c.flush_each.new.passes e.passes ∙ sym (pairs_length IsPassAt lives passes store.seated) in
-    let same = c.deref_mut.ensures.value in
-    let replied = c.flush_reply.ensures e.flushes.0 e.flushes.1 in
-    let stays = subst Stays (sym replied) (flushed_stays c.flush_each.result e.flushes.0 e.flushes.1) in
+    let e = c.keep_up.ensures in
+    let replied = c.flush_reply.ensures e.counts.0 e.counts.1 in
+    let stays = subst Stays (sym replied) (flushed_stays c.keep_up.result e.counts.0 e.counts.1) in
     record {
-      lives = refl;
-      numbers = numbers_all passes c.flush_each.new.passes store.passes.len whole many (subst (λ (l : List (LivePass g.row.D.Denot)). KeepNumbers l c.flush_each.new.passes) same e.numbers);
-      carries = carries_all passes c.flush_each.new.passes store.passes.len whole many g.D.Disk.view lives c.args.command.now command.Flush c.args.now c.flush_reply.result c.in-Flush.is (record {
-        outcome = e.flushes.0;
-        works = subst (λ (l : List (LivePass g.row.D.Denot)). EachDevice (Flushes g.D.Disk.view) (known_each lives l) (known_each lives c.flush_each.new.passes) 0 0 e.flushes.0) same e.flushes.2;
-        replied = replied;
-      });
+      lives = e.lives;
+      numbers = e.numbers;
+      carries = subst (λ (x : Command). Carries g.D.Disk.view (known_by c.args.self.now) x c.args.now c.flush_reply.result (known_by c.keep_up.new.self)) (sym c.in-Flush.is)
+          (record { outcome = e.counts.0; works = e.counts.2; replied = replied });
+      goes_on = (stays.0, stays.1);
+      mode = λ is. absurd (stays.2 is);
+    }
+
+pub returns-in-Heal : goal.returns-in-Heal
+returns-in-Heal g c =
+    let e = c.keep_up-in-Heal.ensures in
+    let replied = c.heal_reply.ensures e.counts.0 e.counts.1 in
+    let stays = subst Stays (sym replied) (healed_stays c.keep_up-in-Heal.result e.counts.0 e.counts.1) in
+    record {
+      lives = e.lives;
+      numbers = e.numbers;
+      carries = subst (λ (x : Command). Carries g.D.Disk.view (known_by c.args.self.now) x c.args.now c.heal_reply.result (known_by c.keep_up-in-Heal.new.self)) (sym c.in-Heal.is)
+          (record { outcome = e.counts.0; works = e.counts.2; replied = replied });
       goes_on = (stays.0, stays.1);
       mode = λ is. absurd (stays.2 is);
     }
@@ -120,7 +125,7 @@ returns-in-Defrag g c =
     let passes = store.passes.items in
     let whole = store.passes.ok.0 in
     let many = pairs_length IsPassAt lives c.defrag_each.new.passes e.passes ∙ sym (pairs_length IsPassAt lives passes store.seated) in
-    let same = c.deref_mut-in-Defrag.ensures.value in
+    let same = c.deref_mut.ensures.value in
     let replied = c.defrag_reply.ensures e.defrags.0 e.defrags.1 in
     let stays = subst Stays (sym replied) (defragged_stays c.defrag_each.result e.defrags.0 e.defrags.1) in
     record {

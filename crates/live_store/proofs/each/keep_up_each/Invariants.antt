@@ -1,13 +1,14 @@
 use Rattle.node_replies.specs.Through.{Through}
 use Rattle.live_store.specs.Known.{ArePasses, KeepNumbers, known_each}
-use Rattle.live_store.specs.Works.{Flushes}
+use Rattle.live_store.specs.Works.{CountsOnce}
+use Rattle.live_store.specs.Upkeep.{call_of}
 use Rattle.live_store.proofs.Working.{WorkTurn}
-use Rattle.live_store.proofs.each.flush_each.Given as goal
+use Rattle.live_store.proofs.each.keep_up_each.Given as goal
 
--- the devices so far are flushed
+-- the devices so far have done it
 abbrev pub invariant-loop-device : goal.invariant-loop-device
 invariant-loop-device g l = record {
   seated : ArePasses l.lives l.passes;
   numbers : KeepNumbers l.initial.passes l.passes;
-  turns : Through (WorkTurn (Flushes g.D.Disk.view)) l.device (0, 0) (known_each l.lives l.initial.passes) (known_each l.lives l.passes) (l.flushed, 0);
+  turns : Through (WorkTurn (CountsOnce g.D.Disk.view (call_of l.upkeep))) l.device (0, 0) (known_each l.lives l.initial.passes) (known_each l.lives l.passes) (l.sum, 0);
 }
