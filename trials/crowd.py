@@ -46,7 +46,7 @@ class Commands:
     def batch(self):
         lines, changes = [], {}
         for _ in range(self.source.choice(self.batches)):
-            other = self.source.choices(["", "flush", "stat", "expire", "defrag"], [965, 20, 10, 3, 2])[0]
+            other = self.source.choices(["", "flush", "stat", "expire", "defrag", "heal"], [964, 20, 10, 3, 2, 1])[0]
             # Half of the commands are of an eighth of the digests.
             few = self.digests[: max(1, len(self.digests) // 8)]
             digest = self.source.choice(few if self.source.random() < 0.5 else self.digests)

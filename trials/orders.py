@@ -339,6 +339,9 @@ class Orders:
         elif word == "flush":
             self.want(reply[0] == "ok", op)
             self.sure = max(self.sure, op.begun)
+        elif word == "heal":
+            # No disk fails, so there is no gate to close.
+            self.want(reply == ["ok", "0"], op)
         elif word in ("expire", "defrag"):
             self.want(reply[0] == "ok" or reply in REFUSED, op)
         else:

@@ -55,11 +55,11 @@ class Lines:
         writes = {}
         for _ in range(self.source.choice([1, 2, 5, 12, 25])):
             digest = self.source.choice(self.digests)
-            other = self.source.choices(["write", "flush", "get", "meta", "restart"], [70, 12, 10, 6, 2])[0]
+            other = self.source.choices(["write", "flush", "get", "meta", "restart", "heal"], [69, 12, 10, 6, 2, 1])[0]
             if other == "write" and writes.get(digest, 0) < MOST_OF_ONE:
                 writes[digest] = writes.get(digest, 0) + 1
                 lines.append(self.line(digest))
-            elif other in ("flush", "restart"):
+            elif other in ("flush", "restart", "heal"):
                 lines.append(other)
             else:
                 lines.append(f"{'meta' if other == 'meta' else 'get'} {digest}")

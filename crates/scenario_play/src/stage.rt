@@ -225,6 +225,16 @@ impl Stage {
         Ok(())
     }
 
+    /// The disk of a name answers so many more calls, and none behind them.
+    fn stop(&mut self, words: &str) -> Result<(), Trouble> {
+        let Some((name, calls)) = words.split_once(' ') else {
+            return Err(Trouble::Line("behind how many calls?"));
+        };
+        let calls = number_of(calls)?;
+        self.disk(name)?.stop_after(calls);
+        Ok(())
+    }
+
     fn write_bytes(&mut self, words: &str) -> Result<(), Trouble> {
         let Some((name, rest)) = words.split_once(' ') else {
             return Err(Trouble::Line("which disk?"));
@@ -298,6 +308,7 @@ impl Stage {
                 push_times(rest, &mut self.around.times)
             }
             "fail" => self.fail(rest),
+            "stop" => self.stop(rest),
             "lie" => {
                 let (name, number) = rest.split_once(' ').unwrap_or((rest, "1"));
                 let skip = skip_of(number)?;
