@@ -1,5 +1,5 @@
 use Rattle.std.proofs.Common.{ℕ, List}
-use Rattle.block_format.specs.declared.geometry.Gate.TheVariants.{Shut, Unsure}
+use Rattle.block_format.specs.declared.geometry.Gate.TheVariants.{Unsure}
 use Rattle.block_shelf.proofs.Closing.{asked}
 use Rattle.block_shelf.proofs.close.cover_unsure.Goals as goal
 

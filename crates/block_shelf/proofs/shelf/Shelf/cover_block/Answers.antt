@@ -1,4 +1,4 @@
-use Rattle.std.proofs.Common.{◌≡◌, ◌≢◌, ◌<◌, arith, sym, subst, ap, ◌∙◌}
+use Rattle.std.proofs.Common.{◌≡◌, ◌≢◌, ◌<◌, arith, sym, subst}
 use Rattle.std.specs.List.{AllByRecursion}
 use Rattle.block_format.specs.declared.geometry.Gate.TheVariants.{Unsure}
 use Rattle.block_shelf.specs.View.{ShelfView, IsShelf, gate_at}
