@@ -1,35 +1,189 @@
--- How a stream falls into lines: more bytes, an LF, and the first line.
-use Rattle.std.proofs.Common.{Bool, true, false, subst, ◌≡◌, ℕ, ◌+◌, ◌-◌, ◌^◌, ◌≤◌, min, List, [], ◌∷◌, ◌++◌, length, map, refl, sym, ◌∙◌, ap, cond, leb, arith, append_assoc, length-append}
+-- How a stream that comes in pieces falls into lines.
+use Rattle.std.proofs.Common.{Bool, true, false, subst, ◌≡◌, ℕ, zero, suc, ◌+◌, ◌-◌, ◌≤◌, ◌==◌, min, List, [], ◌∷◌, ◌++◌, length, map, take, refl, sym, ◌∙◌, ap, cond, leb, arith, append_assoc}
+use Rattle.std.specs.Prelude.{◌≢◌}
+use Rattle.std.proofs.Math.Seq.{take-append-add}
+use Rattle.std.proofs.lemmas.Bool.{eqb-true, eqb-false, ne_eqb}
 use Rattle.std.proofs.lemmas.Bool.Decides.{nat_tests}
 use Rattle.std.proofs.lemmas.Grind.{flat_map-append}
-use Rattle.std.proofs.lemmas.List.{append-nil, map-append}
+use Rattle.std.proofs.lemmas.List.{append-nil, length-take}
 use Rattle.std.specs.List.{flat_map}
 use Rattle.law_lists.proofs.Each.{all_joined}
-use Rattle.line_proto.specs.declared.line_end.LineEnd.{LineEnd}
-use Rattle.line_proto.specs.declared.line_end.LineEnd.TheVariants.{Whole, TooLong}
 use Rattle.line_proto.specs.Lines.{line_limit}
-use Rattle.line_proto.specs.Stream.{IsOneLine, ended, line_end, FallInto, Kept, KeepsBytes, nothing_kept, with_bytes, open_end, BeginsWithLine}
+use Rattle.line_proto.specs.Stream.{LineEnd, Whole, TooLong, IsOneLine, ended, line_end, FallInto, ends_of, open_of, kept_of, joined, lent}
 
--- bytes without an LF go on with the open line
-falls_on : (bytes : List ℕ) (lines : List (List ℕ)) (rest more : List ℕ) → FallInto bytes lines rest → IsOneLine more → FallInto (bytes ++ more) lines (rest ++ more)
-falls_on bytes lines rest more falls one_line = record {
-  whole = ap (λ (l : List ℕ). l ++ more) falls.whole ∙ append_assoc (flat_map ended lines) rest more;
-  each = falls.each;
-  open_line = all_joined _ rest more falls.open_line one_line;
-}
+-- ---- what is kept of a line that is too long
 
--- an LF ends it
-falls_over : (bytes : List ℕ) (lines : List (List ℕ)) (rest : List ℕ) → FallInto bytes lines rest → FallInto (bytes ++ 10 ∷ []) (lines ++ rest ∷ []) []
-falls_over bytes lines rest falls = record {
-  whole =
-      ap (λ (l : List ℕ). l ++ 10 ∷ []) falls.whole ∙ append_assoc (flat_map ended lines) rest (10 ∷ [])
-      ∙ ap (λ (l : List ℕ). flat_map ended lines ++ l) (sym (append-nil (rest ++ 10 ∷ [])))
-      ∙ sym (flat_map-append ended lines (rest ∷ [])) ∙ sym (append-nil (flat_map ended (lines ++ rest ∷ [])));
-  each = all_joined IsOneLine lines (rest ∷ []) falls.each (falls.open_line, tt);
-  open_line = tt;
-}
+-- the first bytes of a line and more depend on no more of the line than as many of its first bytes
+take_again : (n : ℕ) (line more : List ℕ) → take n (take n line ++ more) ≡ take n (line ++ more)
+take_again zero line more = refl
+take_again (suc n) [] more = refl
+take_again (suc n) (byte ∷ line) more = ap (λ (l : List ℕ). byte ∷ l) (take_again n line more)
 
--- a piece more goes on where the bytes before it fell
+pub kept_again : (line more : List ℕ) → kept_of (kept_of line ++ more) ≡ kept_of (line ++ more)
+unfolding kept_of
+kept_again line more = take_again (line_limit + 1) line more
+
+take_whole : (n : ℕ) (line : List ℕ) → length line ≤ n → take n line ≡ line
+take_whole zero [] fits = refl
+take_whole zero (byte ∷ line) fits = absurd (omega arith)
+take_whole (suc n) [] fits = refl
+take_whole (suc n) (byte ∷ line) fits = ap (λ (l : List ℕ). byte ∷ l) (take_whole n line (omega arith))
+
+long_test : (n : ℕ) → leb n 2200000 ≡ false → leb (min 2200001 n) 2200000 ≡ false
+long_test n long = grind (arith, nat_tests)
+
+-- it tells how the line ends
+end_kept : (line : List ℕ) → line_end (kept_of line) ≡ line_end line
+unfolding kept_of
+end_kept line = by_length (leb (length line) 2200000) refl
+  where
+    by_length : (short : Bool) → leb (length line) 2200000 ≡ short → line_end (take 2200001 line) ≡ line_end line
+    by_length true is =
+        let small : length line ≤ 2200000 = grind (arith, nat_tests) in ap line_end (take_whole 2200001 line (omega arith))
+    by_length false is =
+        let long : leb (length (take 2200001 line)) 2200000 ≡ false = ap (λ n. leb n 2200000) (length-take 2200001 line) ∙ long_test (length line) is in
+        ap (λ b. cond b (Whole (take 2200001 line)) TooLong) long ∙ sym (ap (λ b. cond b (Whole line) TooLong) is)
+
+-- the bytes behind those that are kept go on with them
+pub kept_more : (kept more : List ℕ) → length kept ≤ line_limit + 1 → kept ++ take (line_limit + 1 - length kept) more ≡ kept_of (kept ++ more)
+unfolding kept_of
+kept_more kept more fits = by_rest (line_limit + 1) (line_limit + 1 - length kept) (omega arith)
+  where
+    by_rest : (n m : ℕ) → length kept + m ≡ n → kept ++ take m more ≡ take n (kept ++ more)
+    by_rest n m is = sym (take-append-add kept more m) ∙ ap (λ (k : ℕ). take k (kept ++ more)) is
+
+-- ---- one line more
+
+lent_take : (n : ℕ) (byte : ℕ) (line last : List ℕ) → lent (take (suc n) (byte ∷ line)) last ≡ take (suc n) (byte ∷ line)
+lent_take n byte line last = refl
+
+lent_kept : (byte : ℕ) (line last : List ℕ) → lent (kept_of (byte ∷ line)) last ≡ kept_of (byte ∷ line)
+unfolding kept_of
+lent_kept byte line last = lent_take line_limit byte line last
+
+-- a line that is lent ends as the line that has come
+pub end_lent : (line last : List ℕ) → line_end (lent (joined line last) last) ≡ line_end (line ++ last)
+end_lent [] last = refl
+end_lent (byte ∷ line) last = ap line_end (lent_kept byte (line ++ last) last) ∙ end_kept (byte ∷ (line ++ last))
+
+no_end : (byte : ℕ) → byte ≢ 10 → (byte == 10) ≡ false
+no_end byte other = ne_eqb byte 10 other
+
+-- an LF ends the line
+pub ends_over : (more line after : List ℕ) → IsOneLine more → ends_of line (more ++ 10 ∷ after) ≡ line_end (line ++ more) ∷ ends_of [] after
+unfolding ends_of
+ends_over [] line after one = ap (λ (l : List ℕ). line_end l ∷ ends_of [] after) (sym (append-nil line))
+ends_over (byte ∷ more) line after one =
+    ap (λ t. cond t (line_end line ∷ ends_of [] (more ++ 10 ∷ after)) (ends_of (line ++ byte ∷ []) (more ++ 10 ∷ after))) (no_end byte one.0)
+    ∙ ends_over more (line ++ byte ∷ []) after one.1
+    ∙ ap (λ (l : List ℕ). line_end l ∷ ends_of [] after) (append_assoc line (byte ∷ []) more)
+
+pub open_over : (more line after : List ℕ) → IsOneLine more → open_of line (more ++ 10 ∷ after) ≡ open_of [] after
+unfolding open_of
+open_over [] line after one = refl
+open_over (byte ∷ more) line after one =
+    ap (λ t. cond t (open_of [] (more ++ 10 ∷ after)) (open_of (line ++ byte ∷ []) (more ++ 10 ∷ after))) (no_end byte one.0)
+    ∙ open_over more (line ++ byte ∷ []) after one.1
+
+-- bytes without an LF go on with it
+pub ends_none : (more line : List ℕ) → IsOneLine more → ends_of line more ≡ []
+unfolding ends_of
+ends_none [] line one = refl
+ends_none (byte ∷ more) line one =
+    ap (λ t. cond t (line_end line ∷ ends_of [] more) (ends_of (line ++ byte ∷ []) more)) (no_end byte one.0) ∙ ends_none more (line ++ byte ∷ []) one.1
+
+pub open_on : (more line : List ℕ) → IsOneLine more → open_of line more ≡ line ++ more
+unfolding open_of
+open_on [] line one = sym (append-nil line)
+open_on (byte ∷ more) line one =
+    ap (λ t. cond t (open_of [] more) (open_of (line ++ byte ∷ []) more)) (no_end byte one.0) ∙ open_on more (line ++ byte ∷ []) one.1 ∙ append_assoc line (byte ∷ []) more
+
+-- ---- a piece more
+
+module _ (a b : List ℕ) (same : kept_of a ≡ kept_of b) where
+  same_more : (more : List ℕ) → kept_of (a ++ more) ≡ kept_of (b ++ more)
+  same_more more = sym (kept_again a more) ∙ ap (λ (l : List ℕ). kept_of (l ++ more)) same ∙ kept_again b more
+
+  same_end : line_end a ≡ line_end b
+  same_end = sym (end_kept a) ∙ ap line_end same ∙ end_kept b
+
+same_ends : (piece a b : List ℕ) → kept_of a ≡ kept_of b → ends_of a piece ≡ ends_of b piece
+unfolding ends_of
+same_ends [] a b same = refl
+same_ends (byte ∷ piece) a b same =
+    let further = same_ends piece (a ++ byte ∷ []) (b ++ byte ∷ []) (same_more a b same (byte ∷ [])) in
+    λ i. cond (byte == 10) (same_end a b same i ∷ ends_of [] piece) (further i)
+
+kept_if : (t : Bool) (x y z : List ℕ) → kept_of y ≡ kept_of z → kept_of (cond t x y) ≡ kept_of (cond t x z)
+kept_if true x y z same = refl
+kept_if false x y z same = same
+
+same_open : (piece a b : List ℕ) → kept_of a ≡ kept_of b → kept_of (open_of a piece) ≡ kept_of (open_of b piece)
+unfolding open_of
+same_open [] a b same = same
+same_open (byte ∷ piece) a b same =
+    kept_if (byte == 10) (open_of [] piece) (open_of (a ++ byte ∷ []) piece) (open_of (b ++ byte ∷ []) piece)
+    (same_open piece (a ++ byte ∷ []) (b ++ byte ∷ []) (same_more a b same (byte ∷ [])))
+
+kept_twice : (line : List ℕ) → kept_of (kept_of line) ≡ kept_of line
+kept_twice line = ap kept_of (sym (append-nil (kept_of line))) ∙ kept_again line [] ∙ ap kept_of (append-nil line)
+
+-- what is kept of a line serves as well as the line
+pub ends_kept : (line piece : List ℕ) → ends_of (kept_of line) piece ≡ ends_of line piece
+ends_kept line piece = same_ends piece (kept_of line) line (kept_twice line)
+
+pub open_kept : (line piece : List ℕ) → kept_of (open_of (kept_of line) piece) ≡ kept_of (open_of line piece)
+open_kept line piece = same_open piece (kept_of line) line (kept_twice line)
+
+-- the lines that a piece ends are those that the bytes fall into
+pub record FallsOn (line piece : List ℕ) : Type 0 where
+  pub lines : List (List ℕ)
+  pub falls : FallInto (line ++ piece) lines (open_of line piece)
+  pub are_ends : ends_of line piece ≡ map line_end lines
+
+-- by its first byte
+module _ (byte : ℕ) (piece line : List ℕ) (one : IsOneLine line) where
+  over : byte ≡ 10 → FallsOn [] piece → FallsOn line (byte ∷ piece)
+  unfolding ends_of open_of
+  over is next =
+      let test : (byte == 10) ≡ true = ap (λ (b : ℕ). b == 10) is in
+      record {
+        lines = line ∷ next.lines;
+        falls = record {
+          whole =
+              ap (λ (b : ℕ). line ++ b ∷ piece) is ∙ ap (λ (l : List ℕ). line ++ 10 ∷ l) next.falls.whole
+              ∙ sym (append_assoc (ended line) (flat_map ended next.lines) (open_of [] piece) ∙ append_assoc line (10 ∷ []) (flat_map ended next.lines ++ open_of [] piece))
+              ∙ ap (λ t. flat_map ended (line ∷ next.lines) ++ cond t (open_of [] piece) (open_of (line ++ byte ∷ []) piece)) (sym test);
+          each = (one, next.falls.each);
+          open_line = subst IsOneLine (ap (λ t. cond t (open_of [] piece) (open_of (line ++ byte ∷ []) piece)) (sym test)) next.falls.open_line;
+        };
+        are_ends = ap (λ t. cond t (line_end line ∷ ends_of [] piece) (ends_of (line ++ byte ∷ []) piece)) test ∙ ap (λ (l : List LineEnd). line_end line ∷ l) next.are_ends;
+      }
+
+  on : (byte == 10) ≡ false → FallsOn (line ++ byte ∷ []) piece → FallsOn line (byte ∷ piece)
+  unfolding ends_of open_of
+  on test next = record {
+    lines = next.lines;
+    falls = record {
+      whole =
+          sym (append_assoc line (byte ∷ []) piece) ∙ next.falls.whole
+          ∙ ap (λ t. flat_map ended next.lines ++ cond t (open_of [] piece) (open_of (line ++ byte ∷ []) piece)) (sym test);
+      each = next.falls.each;
+      open_line = subst IsOneLine (ap (λ t. cond t (open_of [] piece) (open_of (line ++ byte ∷ []) piece)) (sym test)) next.falls.open_line;
+    };
+    are_ends = ap (λ t. cond t (line_end line ∷ ends_of [] piece) (ends_of (line ++ byte ∷ []) piece)) test ∙ next.are_ends;
+  }
+
+  by_byte : ((l : List ℕ) → IsOneLine l → FallsOn l piece) → (t : Bool) → (byte == 10) ≡ t → FallsOn line (byte ∷ piece)
+  by_byte next true test = over (eqb-true byte 10 test) (next [] tt)
+  by_byte next false test = on test (next (line ++ byte ∷ []) (all_joined _ line (byte ∷ []) one (eqb-false byte 10 test, tt)))
+
+pub falls_on : (piece line : List ℕ) → IsOneLine line → FallsOn line piece
+unfolding ends_of open_of
+falls_on [] line one = record { lines = []; falls = record { whole = append-nil line; each = tt; open_line = one }; are_ends = refl }
+falls_on (byte ∷ piece) line one = by_byte byte piece line one (λ l is. falls_on piece l is) (byte == 10) refl
+
+-- bytes that come behind others go on where those fell
 pub falls_further : (bytes piece : List ℕ) (lines : List (List ℕ)) (rest : List ℕ) (more : List (List ℕ)) (after : List ℕ) → FallInto bytes lines rest → FallInto (rest ++ piece) more after
     → FallInto (bytes ++ piece) (lines ++ more) after
 falls_further bytes piece lines rest more after one two = record {
@@ -40,124 +194,3 @@ falls_further bytes piece lines rest more after one two = record {
   each = all_joined IsOneLine lines more one.each two.each;
   open_line = two.open_line;
 }
-
-same_test : (n : ℕ) → leb (min n (2 ^ 64 - 1)) 2200000 ≡ leb n 2200000
-same_test n = grind (arith, nat_tests)
-
-same_end : (kept : Kept) (line : List ℕ) → kept.size ≡ min (length line) (2 ^ 64 - 1) → (length line ≤ line_limit → kept.partial ≡ line) → open_end kept ≡ line_end line
-same_end kept line counted is_partial =
-    ap (λ b. cond b (Whole kept.partial) TooLong) (ap (λ n. leb n 2200000) counted ∙ same_test (length line))
-    ∙ within (leb (length line) 2200000) refl
-  where
-    within : (b : Bool) → leb (length line) 2200000 ≡ b → cond b (Whole kept.partial) TooLong ≡ cond b (Whole line) TooLong
-    within true is = let small : length line ≤ 2200000 = grind (arith, nat_tests) in ap Whole (is_partial small)
-    within false is = refl
-
--- what is kept stands for more bytes of the open line
-pub stands_on : (kept : Kept) (bytes more : List ℕ) → KeepsBytes kept bytes → IsOneLine more → KeepsBytes (with_bytes kept more) (bytes ++ more)
-stands_on kept bytes more stands one_line =
-    let longer : length (stands.rest ++ more) ≡ length stands.rest + length more = length-append stands.rest more in
-    record {
-      lines = stands.lines;
-      rest = stands.rest ++ more;
-      falls = falls_on bytes stands.lines stands.rest more stands.falls one_line;
-      are_ready = stands.are_ready;
-      counted = omega (arith, longer, stands.counted);
-      is_partial = λ fits.
-          let small : leb (min (kept.size + length more) (2 ^ 64 - 1)) 2200000 ≡ true = grind (arith, nat_tests, longer, stands.counted) in
-          rw small (ap (λ (l : List ℕ). l ++ more) (stands.is_partial (omega (arith, longer))));
-    }
-
--- the line that an LF ends is ready, and nothing is open
-abbrev with_end : Kept → Kept
-with_end kept = record { ready = kept.ready ++ open_end kept ∷ []; partial = []; size = 0 }
-
-record StandsFresh (kept : Kept) (bytes : List ℕ) : Type 0 where
-  stands : KeepsBytes kept bytes
-  fresh : stands.rest ≡ []
-
-stands_over : (kept : Kept) (bytes : List ℕ) → KeepsBytes kept bytes → StandsFresh (with_end kept) (bytes ++ 10 ∷ [])
-stands_over kept bytes stands = record {
-  stands = record {
-    lines = stands.lines ++ stands.rest ∷ [];
-    rest = [];
-    falls = falls_over bytes stands.lines stands.rest stands.falls;
-    are_ready =
-        (λ i. stands.are_ready i ++ same_end kept stands.rest stands.counted stands.is_partial i ∷ [])
-        ∙ sym (map-append line_end stands.lines (stands.rest ∷ []));
-    counted = refl;
-    is_partial = λ _. refl;
-  };
-  fresh = refl;
-}
-
--- the open line, the line feed, and what bytes alone come to
-joined : (kept more : Kept) (bytes piece : List ℕ) → StandsFresh kept bytes → KeepsBytes more piece
-    → KeepsBytes (record { ready = kept.ready ++ more.ready; partial = more.partial; size = more.size }) (bytes ++ piece)
-joined kept more bytes piece was next = record {
-  lines = was.stands.lines ++ next.lines;
-  rest = next.rest;
-  falls = falls_further bytes piece was.stands.lines was.stands.rest next.lines next.rest was.stands.falls
-      (subst (λ (l : List ℕ). FallInto (l ++ piece) next.lines next.rest) (sym was.fresh) next.falls);
-  are_ready = (λ i. was.stands.are_ready i ++ next.are_ready i) ∙ sym (map-append line_end was.stands.lines next.lines);
-  counted = next.counted;
-  is_partial = next.is_partial;
-}
-
--- a piece up to its first LF, and what the bytes behind it come to
-fed : (kept more : Kept) (bytes first others : List ℕ) → KeepsBytes kept bytes → IsOneLine first → KeepsBytes more others
-    → KeepsBytes (record { ready = (kept.ready ++ open_end (with_bytes kept first) ∷ []) ++ more.ready; partial = more.partial; size = more.size }) (bytes ++ (first ++ 10 ∷ others))
-fed kept more bytes first others stands one_line next =
-    let longer = stands_on kept bytes first stands one_line in
-    let closed = stands_over (with_bytes kept first) (bytes ++ first) longer in
-    let all = joined (with_end (with_bytes kept first)) more ((bytes ++ first) ++ 10 ∷ []) others closed next in
-    subst (λ (l : List ℕ). KeepsBytes (record { ready = (kept.ready ++ open_end (with_bytes kept first) ∷ []) ++ more.ready; partial = more.partial; size = more.size }) l)
-    (append_assoc (bytes ++ first) (10 ∷ []) others ∙ append_assoc bytes first (10 ∷ others)) all
-
--- one more line of bytes that are taken line by line
-pub next_stands : (ready ready' : List LineEnd) (end : LineEnd) (tail longer fresh : Kept) (gone line : List ℕ)
-    → ready' ≡ ready ++ end ∷ [] → end ≡ open_end longer → longer ≡ with_bytes tail line → fresh ≡ nothing_kept
-    → KeepsBytes (record { ready = ready; partial = tail.partial; size = tail.size }) gone → IsOneLine line
-    → KeepsBytes (record { ready = ready'; partial = fresh.partial; size = fresh.size }) (gone ++ (line ++ 10 ∷ []))
-next_stands ready ready' end tail longer fresh gone line is_ready is_end is_longer is_fresh stands one_line =
-    let kept : Kept = record { ready = ready; partial = tail.partial; size = tail.size } in
-    let over = (stands_over (with_bytes kept line) (gone ++ line) (stands_on kept gone line stands one_line)).stands in
-    rw (is_ready, is_end, is_longer, is_fresh) (subst (λ (l : List ℕ). KeepsBytes (with_end (with_bytes kept line)) l) (append_assoc gone line (10 ∷ [])) over)
-
--- where a line and its LF were taken, the rest is behind them
-pub next_parts : (bytes gone rest line after : List ℕ) → bytes ≡ gone ++ rest → rest ≡ line ++ 10 ∷ after → bytes ≡ (gone ++ (line ++ 10 ∷ [])) ++ after
-next_parts bytes gone rest line after one two = one ∙ ap (λ (l : List ℕ). gone ++ l) two ∙ simp append_assoc
-
--- a piece is fed: its first line ends the open line, the lines behind it are ready, and its end is open
-pub fed_piece : (ready ready' : List LineEnd) (end : LineEnd) (tail longer : Kept) (more : Kept) (bytes first others piece : List ℕ)
-    → ready' ≡ (ready ++ end ∷ []) ++ more.ready → end ≡ open_end longer → longer ≡ with_bytes tail first → piece ≡ first ++ 10 ∷ others
-    → KeepsBytes (record { ready = ready; partial = tail.partial; size = tail.size }) bytes → IsOneLine first → KeepsBytes more others
-    → KeepsBytes (record { ready = ready'; partial = more.partial; size = more.size }) (bytes ++ piece)
-fed_piece ready ready' end tail longer more bytes first others piece is_ready is_end is_longer is_piece stands one_line next =
-    rw (is_ready, is_end, is_longer, is_piece) (fed (record { ready = ready; partial = tail.partial; size = tail.size }) more bytes first others stands one_line next)
-
-none_ready : (bytes : List ℕ) (lines : List (List ℕ)) (rest : List ℕ) → FallInto bytes lines rest → [] ≡ map line_end lines → IsOneLine bytes
-none_ready bytes [] rest falls none = subst IsOneLine (sym falls.whole) falls.open_line
-none_ready bytes (line ∷ lines) rest falls none = cc
-
--- with no line ready no LF is left
-pub no_line : (kept : Kept) (bytes : List ℕ) → KeepsBytes kept bytes → kept.ready ≡ [] → IsOneLine bytes
-no_line kept bytes stands none = none_ready bytes stands.lines stands.rest stands.falls (sym none ∙ stands.are_ready)
-
-begins : (bytes : List ℕ) (lines : List (List ℕ)) (rest : List ℕ) (end : LineEnd) (more : List LineEnd) (partial : List ℕ) (size : ℕ) → FallInto bytes lines rest
-    → end ∷ more ≡ map line_end lines → size ≡ min (length rest) (2 ^ 64 - 1) → (length rest ≤ line_limit → partial ≡ rest)
-    → BeginsWithLine bytes end (record { ready = more; partial = partial; size = size })
-begins bytes [] rest end more partial size falls ready counted is_partial = cc
-begins bytes (line ∷ lines) rest end more partial size falls ready counted is_partial = record {
-  line = line;
-  after = flat_map ended lines ++ rest;
-  first = falls.whole ∙ append_assoc (ended line) (flat_map ended lines) rest;
-  one_line = falls.each.0;
-  is_end = cc;
-  stands = record { lines = lines; rest = rest; falls = record { whole = refl; each = falls.each.1; open_line = falls.open_line }; are_ready = cc; counted = counted; is_partial = is_partial };
-}
-
--- the first line that is ready is the first of the bytes
-pub first_line : (kept : Kept) (bytes : List ℕ) (end : LineEnd) (more : List LineEnd) → KeepsBytes kept bytes → kept.ready ≡ end ∷ more
-    → BeginsWithLine bytes end (record { ready = more; partial = kept.partial; size = kept.size })
-first_line kept bytes end more stands ready = begins bytes stands.lines stands.rest end more kept.partial kept.size stands.falls (sym ready ∙ stands.are_ready) stands.counted stands.is_partial

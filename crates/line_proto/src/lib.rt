@@ -2,8 +2,6 @@
 #![tactic(auto)]
 
 mod command;
-mod line_end;
-mod lines;
 mod open_line;
 mod parts;
 mod print;
@@ -13,8 +11,8 @@ mod spell;
 mod store;
 
 pub use command::Command;
-pub use line_end::LineEnd;
-pub use lines::Lines;
+pub use open_line::OpenLine;
+pub use parts::cut;
 pub use print::print_reply;
 pub use read::read_command;
 pub use reply::{LineFault, Reply};

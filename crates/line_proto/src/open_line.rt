@@ -1,78 +1,94 @@
-// The bytes after the last LF.
-ghost use Rattle.std.specs.Prelude.{◌≡◌, [], OnErr, OnOk};
-ghost use Rattle.line_proto.specs.Stream.{nothing_kept, with_bytes, open_end};
+// The line that no LF has ended yet.
+ghost use Rattle.std.specs.Prelude.{◌≡◌, ◌+◌, ◌≤◌, ◌++◌, ◌↔◌, [], length, option_map, IsTrue, OnErr, OnOk};
+ghost use Rattle.line_proto.specs.Lines.{line_limit};
+ghost use Rattle.line_proto.specs.Stream.{kept_of, joined, lent, line_end, as_end};
 
 use crate::NoMemory;
-use crate::line_end::LineEnd;
-use rec_format::Bytes;
+use crate::read::LINE_LIMIT;
 use std::alloc::Global;
 use std::marker::Model;
-use std::mem;
 
-// The most bytes of a line, its LF not counted.
-const LINE_LIMIT: u64 = 2_200_000;
+// How much room is kept for later lines.
+const KEPT_ROOM: usize = 262_144;
 
-/// How many they are, and which, unless they are too many for a line.
+/// The bytes of a line whose end is still to come, and of one that is too long no more of them than show that.
 #[derive(Drop)]
 pub struct OpenLine {
-    alloc: Global,
     bytes: Vec<u8>,
-    size: u64,
 }
 
 impl Model for OpenLine {
-    ghost use Rattle.std.specs.Prelude.{[]};
-    ghost use Rattle.line_proto.specs.Stream.{Kept};
+    ghost use Rattle.std.specs.Prelude.{List, ℕ};
 
-    ghost Value = { Kept };
+    ghost Value = { List ℕ };
 
-    ghost view = { λ l. record { ready = []; partial = l.bytes.items; size = l.size } };
+    ghost view = { λ l. l.bytes.items };
 }
 
 impl OpenLine {
-    /// An open line of no bytes.
+    /// A line of no bytes. It takes no memory.
     pub fn new(alloc: Global) -> Self
-        ensures { result ≡ nothing_kept }
+        ensures { result ≡ [] }
     {
         OpenLine {
-            alloc,
             bytes: Vec::new(alloc),
-            size: 0,
         }
     }
 
-    /// How many bytes have come, also where they are too many for a line.
-    pub fn size(&self) -> u64
-        ensures { result ≡ self.now.size }
+    /// Whether no bytes have come.
+    pub fn is_empty(&self) -> bool
+        ensures { IsTrue result ↔ (self.now ≡ []) }
     {
-        self.size
+        self.bytes.is_empty()
     }
 
     /// At `Ok` the line has gone on with these bytes, which have no LF. An `Err` is want of memory, and changes
     /// nothing.
     pub fn go_on(&mut self, bytes: &[u8]) -> Result<(), NoMemory>
-        ensures ok { OnOk result (self.new ≡ with_bytes self.old bytes.now) }
+        requires { length self.old ≤ line_limit + 1 }
+        ensures ok { OnOk result (self.new ≡ kept_of (self.old ++ bytes.now)) }
         ensures err { OnErr result (self.new ≡ self.old) }
     {
-        let size = self.size.saturating_add(bytes.len() as u64);
-        if size <= LINE_LIMIT {
-            self.bytes.extend_from_slice(bytes)?;
-        }
-        self.size = size;
-        Ok(())
+        let room = LINE_LIMIT + 1 - self.bytes.len();
+        self.bytes
+            .extend_from_slice(&bytes[..room.min(bytes.len())])
     }
 
-    /// Hands on the line, which an LF ends, or tells that it was too long. The next line has no bytes then.
-    pub fn end(&mut self) -> LineEnd
-        ensures end { result ≡ open_end self.old }
-        ensures rest { self.new ≡ nothing_kept }
+    /// At `Ok` the line has gone on with its last bytes, if it had begun: one that is these bytes alone isn't copied. An
+    /// `Err` is want of memory, and changes nothing.
+    pub fn join(&mut self, last: &[u8]) -> Result<(), NoMemory>
+        requires { length self.old ≤ line_limit + 1 }
+        ensures ok { OnOk result (self.new ≡ joined self.old last.now) }
+        ensures err { OnErr result (self.new ≡ self.old) }
     {
-        let bytes = mem::replace(&mut self.bytes, Vec::new(self.alloc));
-        let size = mem::replace(&mut self.size, 0);
-        if size <= LINE_LIMIT {
-            LineEnd::Whole(Bytes::from_vec(bytes))
+        if self.bytes.is_empty() {
+            return Ok(());
+        }
+        self.go_on(last)
+    }
+
+    /// Lends the line whose last bytes these are, once they are joined to it. None is a line that is too long.
+    pub fn lend<'a>(&'a self, last: &'a [u8]) -> Option<&'a [u8]>
+        ensures { as_end (option_map (λ line. line.now) result) ≡ line_end (lent self.now last.now) }
+    {
+        let line = if self.bytes.is_empty() {
+            last
         } else {
-            LineEnd::TooLong
+            self.bytes.as_slice()
+        };
+        if line.len() > LINE_LIMIT {
+            return None;
+        }
+        Some(line)
+    }
+
+    /// The next line has no bytes yet. The room stays, where it isn't more than is kept.
+    pub fn clear(&mut self)
+        ensures { self.new ≡ [] }
+    {
+        self.bytes.clear();
+        if self.bytes.capacity() > KEPT_ROOM {
+            self.bytes.shrink_to_fit();
         }
     }
 }

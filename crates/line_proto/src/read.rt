@@ -8,8 +8,8 @@ use crate::parts::{cut, data_of, digest_of, expect_of, number_of};
 use crate::{Command, NoMemory};
 use std::alloc::Global;
 
-// The most bytes of a line, its LF not counted.
-const LINE_LIMIT: usize = 2_200_000;
+/// The most bytes of a line, its LF not counted.
+pub const LINE_LIMIT: usize = 2_200_000;
 
 // The longest time to live, in seconds.
 const LONGEST_TTL: u64 = 315_360_000;

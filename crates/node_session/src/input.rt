@@ -2,54 +2,22 @@
 ghost use Rattle.std.specs.Prelude.{◌≡◌, ◌≢◌, ◌⊎◌, ◌+◌, ◌<◌, ◌≤◌, ◌^◌, ◌++◌, List, ℕ, [], length, IfOk, IsErrOf};
 ghost use Rattle.model_faults.specs.Counts.{Rose};
 ghost use Rattle.io_traits.specs.Source.{Shortens, IsAtEnd};
-ghost use Rattle.line_proto.specs.Stream.{KeepsBytes};
 ghost use Rattle.io_traits.specs.Sink.{Extends, AllHandedOn};
 ghost use Rattle.node_session.specs.HandedOn.{FallsShort};
 ghost use Rattle.node_session.specs.declared.ended.Ended.{Ended};
 ghost use Rattle.node_session.specs.Session.{Ran, EndsAtRest, ended_of};
 
 use crate::ended::Ended;
-use crate::ready::serve_ready;
+use crate::piece::{Served, serve_piece};
 use crate::replies::Replies;
 use crate::stop::Stop;
 use crate::turn::turn;
 use io_traits::{Clock, Sink, SinkFault, Source};
-use line_proto::{LineEnd, Lines, Store};
+use line_proto::{OpenLine, Store};
 use std::alloc::Global;
 
 // How many bytes of the input are taken at once.
 const PIECE: usize = 65_536;
-
-/// Why no piece could be had.
-#[derive(Clone, Copy, Debug, PartialEq, Eq)]
-pub enum NoPiece {
-    SourceFault,
-    Memory,
-}
-
-// Takes the next piece of the input into the lines. None is the end.
-fn take_piece<L: Source>(link: &mut L, lines: &mut Lines, out: &mut [u8]) -> Result<usize, NoPiece>
-    requires { 0 < length out.old }
-    ensures piece { (piece : List ℕ) × (L.taken link.new ≡ L.taken link.old ++ piece) × Shortens (L.left link.old) (L.left link.new) piece
-        × (length piece ≤ length out.old)
-        × (IsErrOf result NoPiece.SourceFault → piece ≡ [])
-        × IfOk result (λ n. (n ≡ length piece) × (n ≡ 0 → IsAtEnd (L.left link.new))
-        × ((bytes : List ℕ) → KeepsBytes lines.old bytes → KeepsBytes lines.new (bytes ++ piece))) }
-    ensures cause { IsErrOf result NoPiece.SourceFault → Rose (L.source_faults link.old) (L.source_faults link.new) }
-    ensures quiet { (IsErrOf result NoPiece.SourceFault → ⊥) → L.source_faults link.new ≡ L.source_faults link.old }
-    ensures later { L.source_faults link.old ≤ L.source_faults link.new }
-    ensures written { L.written link.new ≡ L.written link.old }
-    ensures handed { L.handed link.new ≡ L.handed link.old }
-    ensures sink_faults { L.sink_faults link.new ≡ L.sink_faults link.old }
-{
-    let Ok(count) = link.read_some(out) else {
-        return Err(NoPiece::SourceFault);
-    };
-    if lines.feed(&out[..count]).is_err() {
-        return Err(NoPiece::Memory);
-    }
-    Ok(count)
-}
 
 fn end_of(stop: Stop, answered: u64) -> Ended
     requires { answered + 1 < 2 ^ 64 }
@@ -86,7 +54,7 @@ fn serve_rest<T: Store, L: Sink, C: Clock>(
     ensures taken { L.taken link.new ≡ L.taken link.old }
     ensures source_faults { L.source_faults link.new ≡ L.source_faults link.old }
 {
-    let stopped = turn(alloc, store, clock, &LineEnd::TooLong, replies);
+    let stopped = turn(alloc, store, clock, None, replies);
     if replies.hand_on(link).is_err() {
         return Ended::SinkFault;
     }
@@ -120,36 +88,35 @@ fn serve<T: Store, L: Source + Sink, C: Clock>(
     ensures source_later { L.source_faults link.old ≤ L.source_faults link.new }
     ensures sink_later { L.sink_faults link.old ≤ L.sink_faults link.new }
 {
-    let mut lines = Lines::new(alloc);
+    let mut tail = OpenLine::new(alloc);
     let mut replies = Replies::new(alloc);
     let mut answered = 0;
     let mut taken = 0;
     while taken < limit {
         let room = (limit - taken).min(buffer.len() as u64) as usize;
-        let count = match take_piece(link, &mut lines, &mut buffer[..room]) {
-            Ok(count) => count,
-            Err(NoPiece::SourceFault) => return Ended::SourceFault,
-            Err(NoPiece::Memory) => return Ended::Memory,
+        let Ok(count) = link.read_some(&mut buffer[..room]) else {
+            return Ended::SourceFault;
         };
         if count == 0 {
-            let rest = lines.rest();
-            if rest == 0 {
+            if tail.is_empty() {
                 return Ended::Finish { lines: answered };
             }
             return serve_rest(alloc, store, link, clock, &mut replies, answered);
         }
         taken += count as u64;
-        match serve_ready(
+        match serve_piece(
             alloc,
             store,
             link,
             clock,
-            &mut lines,
+            &mut tail,
+            &buffer[..count],
             &mut replies,
             &mut answered,
         ) {
-            Ok(None) => {}
-            Ok(Some(stop)) => return end_of(stop, answered),
+            Ok(Served::All) => {}
+            Ok(Served::StoppedAt(stop)) => return end_of(stop, answered),
+            Ok(Served::NoMemory) => return Ended::Memory,
             Err(SinkFault) => return Ended::SinkFault,
         }
     }

@@ -4,7 +4,7 @@
 
 mod ended;
 mod input;
-mod ready;
+mod piece;
 mod replies;
 mod stop;
 mod turn;

@@ -1,32 +1,33 @@
 // One line's turn.
-ghost use Rattle.std.specs.Prelude.{◌≡◌, List, ℕ, ◌++◌, IfNone, IfSome, MatchBool};
+ghost use Rattle.std.specs.Prelude.{◌≡◌, List, ℕ, ◌++◌, IfNone, IfSome, MatchBool, option_map};
 ghost use Rattle.line_proto.specs.declared.reply.Reply.{Reply};
 ghost use Rattle.line_proto.specs.Lines.{reply_text};
+ghost use Rattle.line_proto.specs.Stream.{as_end};
 ghost use Rattle.node_session.specs.Turns.{Answers, Quits, WholeTurn, StopsAtLine};
 
 use crate::replies::Replies;
 use crate::stop::Stop;
 use io_traits::Clock;
-use line_proto::{Command, LineEnd, LineFault, Reply, Store, read_command};
+use line_proto::{Command, LineFault, Reply, Store, read_command};
 use std::alloc::Global;
 
 const LATEST: u64 = 1 << 61;
 
-/// The reply to a line, and whether the line was `quit`.
+/// The reply to a line, which is none where it is too long, and whether the line was `quit`.
 fn answer<T: Store, C: Clock>(
     alloc: Global,
     store: &mut T,
     clock: &mut C,
-    line: &LineEnd,
+    line: Option<&[u8]>,
 ) -> (Reply, bool)
     ensures { MatchBool result.1
-        (Quits line.now store.old (C.times clock.old) result.0 store.new (C.times clock.new))
-        (Answers T.acts line.now store.old (C.times clock.old) result.0 store.new (C.times clock.new)) }
+        (Quits (as_end (option_map (λ bytes. bytes.now) line.entry)) store.old (C.times clock.old) result.0 store.new (C.times clock.new))
+        (Answers T.acts (as_end (option_map (λ bytes. bytes.now) line.entry)) store.old (C.times clock.old) result.0 store.new (C.times clock.new)) }
 {
-    let LineEnd::Whole(bytes) = line else {
+    let Some(bytes) = line else {
         return (Reply::Fail(LineFault::Line), false);
     };
-    match read_command(alloc, bytes.as_slice()) {
+    match read_command(alloc, bytes) {
         Err(_) => (Reply::Fail(LineFault::Memory), false),
         Ok(None) => (Reply::Fail(LineFault::Line), false),
         Ok(Some(command)) => {
@@ -54,14 +55,14 @@ pub fn turn<T: Store, C: Clock>(
     alloc: Global,
     store: &mut T,
     clock: &mut C,
-    line: &LineEnd,
+    line: Option<&[u8]>,
     replies: &mut Replies,
 ) -> Option<Stop>
     ensures done { IfNone result ((reply : Reply)
-        × WholeTurn T.acts T.tends line.now store.old (C.times clock.old) reply store.new (C.times clock.new)
+        × WholeTurn T.acts T.tends (as_end (option_map (λ bytes. bytes.now) line.entry)) store.old (C.times clock.old) reply store.new (C.times clock.new)
         × (replies.new ≡ replies.old ++ reply_text reply)) }
     ensures stopped { IfSome result (λ stop. (last : List ℕ)
-        × StopsAtLine T.acts T.tends line.now store.old (C.times clock.old) last store.new (C.times clock.new) stop
+        × StopsAtLine T.acts T.tends (as_end (option_map (λ bytes. bytes.now) line.entry)) store.old (C.times clock.old) last store.new (C.times clock.new) stop
         × (replies.new ≡ replies.old ++ last)) }
 {
     let (reply, quits) = answer(alloc, store, clock, line);

@@ -1,7 +1,7 @@
 use Rattle.std.proofs.Common.{◌≡◌, ◌≤◌, ◌-◌, ℕ, List, [], ◌++◌, length, map}
 use Rattle.io_traits.specs.Sink.{Extends, AllHandedOn}
 use Rattle.io_traits.specs.Source.{Shortens}
-use Rattle.line_proto.specs.Stream.{FallInto, KeepsBytes, line_end}
+use Rattle.line_proto.specs.Stream.{FallInto, kept_of, line_end}
 use Rattle.node_session.specs.Turns.{HasTurns}
 use Rattle.node_session.proofs.input.serve.Given as goal
 
@@ -16,7 +16,7 @@ invariant-loop-taken g l = record {
   falls : FallInto bytes whole rest;
   serves : HasTurns g.T.Store.acts g.T.Store.tends (map line_end whole) l.fn.store (g.C.Clock.times l.fn.clock) output l.store (g.C.Clock.times l.clock);
   extends : Extends (g.L.Ends.written l.fn.link) (g.L.Ends.written l.link) output;
-  stands : KeepsBytes l.lines rest;
+  stands : l.tail ≡ kept_of rest;
   none_waits : l.replies ≡ [];
   counted : l.answered ≡ length whole;
   size : l.taken ≡ length bytes;
