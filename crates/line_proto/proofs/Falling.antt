@@ -66,6 +66,12 @@ pub end_lent : (line last : List ℕ) → line_end (lent (joined line last) last
 end_lent [] last = refl
 end_lent (byte ∷ line) last = ap line_end (lent_kept byte (line ++ last) last) ∙ end_kept (byte ∷ (line ++ last))
 
+-- so does one of which that is lent that was kept and joined to its last bytes
+pub end_of_stream : (kept line last : List ℕ) (end : LineEnd) → end ≡ line_end (lent kept last) → kept ≡ joined (kept_of line) last → end ≡ line_end (line ++ last)
+end_of_stream kept line last end is joins =
+    is ∙ ap (λ (l : List ℕ). line_end (lent l last)) joins ∙ end_lent (kept_of line) last
+    ∙ sym (end_kept (kept_of line ++ last)) ∙ ap line_end (kept_again line last) ∙ end_kept (line ++ last)
+
 no_end : (byte : ℕ) → byte ≢ 10 → (byte == 10) ≡ false
 no_end byte other = ne_eqb byte 10 other
 

@@ -1,5 +1,5 @@
 // The line that no LF has ended yet.
-ghost use Rattle.std.specs.Prelude.{◌≡◌, ◌+◌, ◌≤◌, ◌++◌, ◌↔◌, [], length, option_map, IsTrue, OnErr, OnOk};
+ghost use Rattle.std.specs.Prelude.{◌≡◌, ◌+◌, ◌≤◌, ◌++◌, ◌↔◌, [], List, ℕ, length, option_map, IsTrue, OnErr, OnOk};
 ghost use Rattle.line_proto.specs.Lines.{line_limit};
 ghost use Rattle.line_proto.specs.Stream.{kept_of, joined, lent, line_end, as_end};
 
@@ -47,6 +47,7 @@ impl OpenLine {
     pub fn go_on(&mut self, bytes: &[u8]) -> Result<(), NoMemory>
         requires { length self.old ≤ line_limit + 1 }
         ensures ok { OnOk result (self.new ≡ kept_of (self.old ++ bytes.now)) }
+        ensures stream { OnOk result ((line : List ℕ) → self.old ≡ kept_of line → self.new ≡ kept_of (line ++ bytes.now)) }
         ensures err { OnErr result (self.new ≡ self.old) }
     {
         let room = LINE_LIMIT + 1 - self.bytes.len();
@@ -67,15 +68,23 @@ impl OpenLine {
         self.go_on(last)
     }
 
-    /// Lends the line whose last bytes these are, once they are joined to it. None is a line that is too long.
-    pub fn lend<'a>(&'a self, last: &'a [u8]) -> Option<&'a [u8]>
-        ensures { as_end (option_map (λ line. line.now) result) ≡ line_end (lent self.now last.now) }
+    // What has come of the line, which is its last bytes where nothing is kept.
+    fn so_far<'a>(&'a self, last: &'a [u8]) -> &'a [u8]
+        ensures { result.now ≡ lent self.now last.now }
     {
-        let line = if self.bytes.is_empty() {
+        if self.bytes.is_empty() {
             last
         } else {
             self.bytes.as_slice()
-        };
+        }
+    }
+
+    /// Lends the line whose last bytes these are, once they are joined to it. None is a line that is too long.
+    pub fn lend<'a>(&'a self, last: &'a [u8]) -> Option<&'a [u8]>
+        ensures end { as_end (option_map (λ line. line.now) result) ≡ line_end (lent self.now last.now) }
+        ensures stream { (line : List ℕ) → self.now ≡ joined (kept_of line) last.now → as_end (option_map (λ line. line.now) result) ≡ line_end (line ++ last.now) }
+    {
+        let line = self.so_far(last);
         if line.len() > LINE_LIMIT {
             return None;
         }

@@ -44,7 +44,7 @@ pub overflow_add-answered : goal.overflow_add-answered
 overflow_add-answered g c =
     let was = c.loop-last.invariant in
     let line = as_end (option_map (λ line. line.now) c.lend.result) in
-    let next = lent_next c.loop-last.tail c.join.new.self c.in-Some.last.now c.in-Some.after.now c.loop-last.rest.now line c.in-Some.ensures.0 c.in-Some.ensures.1 (search rules) c.lend.ensures in
+    let next = lent_next c.loop-last.tail c.join.new.self c.in-Some.last.now c.in-Some.after.now c.loop-last.rest.now line c.in-Some.ensures.0 c.in-Some.ensures.1 (search rules) c.lend.ensures.end in
     omega (arith, c.requires.fits, was.counted, ap length was.parts, ap length next, length-append was.done (ends_of c.loop-last.tail c.loop-last.rest.now))
 
 pub loop-last-preserved : goal.loop-last-preserved
@@ -54,7 +54,7 @@ loop-last-preserved g c =
     let last = c.in-Some.last.now in
     let after = c.in-Some.after.now in
     let line = as_end (option_map (λ line. line.now) c.lend.result) in
-    let next = lent_next tail c.join.new.self last after c.loop-last.rest.now line c.in-Some.ensures.0 c.in-Some.ensures.1 (search rules) c.lend.ensures in
+    let next = lent_next tail c.join.new.self last after c.loop-last.rest.now line c.in-Some.ensures.0 c.in-Some.ensures.1 (search rules) c.lend.ensures.end in
     let turned = c.in_default-turn.ensures.done in
     let handed = c.in_ok-make_room.ensures in
     let collected = collected_more g.T.Store.acts g.T.Store.tends c.args.store.now (g.C.Clock.times c.args.clock.now) (g.L.Ends.written c.args.link.now) was.done c.loop-last.replies
@@ -107,7 +107,7 @@ pub returns-in_err-hand_on-2-clause-failed : goal.returns-in_err-hand_on-2-claus
 returns-in_err-hand_on-2-clause-failed g c = λ _.
     let was = c.loop-last.invariant in
     let line = as_end (option_map (λ line. line.now) c.lend.result) in
-    let next = lent_next c.loop-last.tail c.join.new.self c.in-Some.last.now c.in-Some.after.now c.loop-last.rest.now line c.in-Some.ensures.0 c.in-Some.ensures.1 (search rules) c.lend.ensures in
+    let next = lent_next c.loop-last.tail c.join.new.self c.in-Some.last.now c.in-Some.after.now c.loop-last.rest.now line c.in-Some.ensures.0 c.in-Some.ensures.1 (search rules) c.lend.ensures.end in
     let stops = c.in-Some-turn.ensures.stopped in
     let one = told_one g.T.Store.acts g.T.Store.tends line c.loop-last.store (g.C.Clock.times c.loop-last.clock) stops.0 c.turn.new.store
     (g.C.Clock.times c.turn.new.clock) c.in-Some-turn.stop stops.1 in
@@ -131,7 +131,7 @@ pub returns-in-Some-turn-clause-stopped : goal.returns-in-Some-turn-clause-stopp
 returns-in-Some-turn-clause-stopped g c = λ stop is.
     let was = c.loop-last.invariant in
     let line = as_end (option_map (λ line. line.now) c.lend.result) in
-    let next = lent_next c.loop-last.tail c.join.new.self c.in-Some.last.now c.in-Some.after.now c.loop-last.rest.now line c.in-Some.ensures.0 c.in-Some.ensures.1 (search rules) c.lend.ensures in
+    let next = lent_next c.loop-last.tail c.join.new.self c.in-Some.last.now c.in-Some.after.now c.loop-last.rest.now line c.in-Some.ensures.0 c.in-Some.ensures.1 (search rules) c.lend.ensures.end in
     let stops = c.in-Some-turn.ensures.stopped in
     let sends = c.in_ok-hand_on-2.ensures.bytes in
     let none : sends.unsent ≡ [] = sends.all ∙ c.in_ok-hand_on-2.ensures.ok in
@@ -153,7 +153,7 @@ pub returns-in_err-make_room-clause-failed : goal.returns-in_err-make_room-claus
 returns-in_err-make_room-clause-failed g c = λ _.
     let was = c.loop-last.invariant in
     let line = as_end (option_map (λ line. line.now) c.lend.result) in
-    let next = lent_next c.loop-last.tail c.join.new.self c.in-Some.last.now c.in-Some.after.now c.loop-last.rest.now line c.in-Some.ensures.0 c.in-Some.ensures.1 (search rules) c.lend.ensures in
+    let next = lent_next c.loop-last.tail c.join.new.self c.in-Some.last.now c.in-Some.after.now c.loop-last.rest.now line c.in-Some.ensures.0 c.in-Some.ensures.1 (search rules) c.lend.ensures.end in
     let turned = c.in_default-turn.ensures.done in
     let sends = c.make_room.ensures.bytes in
     let collected = collected_more g.T.Store.acts g.T.Store.tends c.args.store.now (g.C.Clock.times c.args.clock.now) (g.L.Ends.written c.args.link.now) was.done c.loop-last.replies
