@@ -8,7 +8,7 @@ use Rattle.disk_model.specs.Disk.{DiskView}
 use Rattle.io_traits.specs.Source.{IsAtEnd}
 use Rattle.line_proto.specs.declared.reply.Reply.{Reply}
 use Rattle.line_proto.specs.declared.reply.Reply.TheVariants as reply
-use Rattle.line_proto.specs.Stream.{LineEnd}
+use Rattle.line_proto.specs.declared.line_end.LineEnd.{LineEnd}
 use Rattle.line_proto.specs.Lines.{reply_text}
 use Rattle.line_proto.specs.Stream.{IsOneLine, ended, FallInto}
 use Rattle.model_node.specs.Commands.{Node}

@@ -8,8 +8,8 @@ use Rattle.std.proofs.lemmas.List.{map-append}
 use Rattle.std.proofs.lemmas.Grind.{flat_map-append}
 use Rattle.law_lists.proofs.Each.{all_joined}
 use Rattle.line_proto.specs.declared.command.Command.{Command}
-use Rattle.line_proto.specs.Stream.{LineEnd}
-use Rattle.line_proto.specs.Stream.{Whole, TooLong}
+use Rattle.line_proto.specs.declared.line_end.LineEnd.{LineEnd}
+use Rattle.line_proto.specs.declared.line_end.LineEnd.TheVariants.{Whole, TooLong}
 use Rattle.line_proto.specs.Lines.{line_limit, IsCommandLine, IsNoCommand, IsPutToData}
 use Rattle.line_proto.specs.Stream.{IsOneLine, ended, line_end, FallInto}
 use Rattle.node_session.specs.Turns.{IsCommand, NamesNoCommand, MayLackMemory}

@@ -5,8 +5,8 @@ use Rattle.io_traits.specs.Clock.{Ticks}
 use Rattle.io_traits.specs.Source.{IsAtEnd}
 use Rattle.line_proto.specs.declared.reply.Reply.{Reply}
 use Rattle.line_proto.specs.declared.reply.Reply.TheVariants as reply
-use Rattle.line_proto.specs.Stream.{LineEnd}
-use Rattle.line_proto.specs.Stream.{TooLong}
+use Rattle.line_proto.specs.declared.line_end.LineEnd.{LineEnd}
+use Rattle.line_proto.specs.declared.line_end.LineEnd.TheVariants.{TooLong}
 use Rattle.line_proto.specs.Stream.{line_end}
 use Rattle.line_proto.specs.declared.command.Command.{Command}
 use Rattle.rec_format.specs.Versions.{bounded_time}

@@ -9,7 +9,9 @@ use Rattle.std.proofs.lemmas.List.{append-nil, length-take}
 use Rattle.std.specs.List.{flat_map}
 use Rattle.law_lists.proofs.Each.{all_joined}
 use Rattle.line_proto.specs.Lines.{line_limit}
-use Rattle.line_proto.specs.Stream.{LineEnd, Whole, TooLong, IsOneLine, ended, line_end, FallInto, ends_of, open_of, kept_of, joined, lent}
+use Rattle.line_proto.specs.declared.line_end.LineEnd.{LineEnd}
+use Rattle.line_proto.specs.declared.line_end.LineEnd.TheVariants.{Whole, TooLong}
+use Rattle.line_proto.specs.Stream.{IsOneLine, ended, line_end, FallInto, ends_of, open_of, kept_of, joined, lent}
 
 -- ---- what is kept of a line that is too long
 

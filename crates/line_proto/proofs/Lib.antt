@@ -1,5 +1,6 @@
 pub mod Examples
 pub mod Falling
+pub mod Feeding
 pub mod Words
 pub mod Spelling
 pub mod Cutting

@@ -1,12 +1,9 @@
 -- Crate line_proto. How a stream of bytes falls into lines, and what is kept of one that comes in pieces.
-use Rattle.std.specs.Prelude.{◌≡◌, ◌≢◌, ℕ, ◌+◌, ◌==◌, nat_le, List, [], ◌∷◌, ◌++◌, length, take, Option, Some, None, if◌then◌else◌}
+use Rattle.std.specs.Prelude.{◌≡◌, ◌≢◌, ℕ, ◌+◌, ◌-◌, ◌^◌, ◌≤◌, ◌==◌, nat_le, min, List, [], ◌∷◌, ◌++◌, length, map, take, Option, Some, None, if◌then◌else◌}
 use Rattle.std.specs.List.{AllByRecursion, flat_map}
+use Rattle.line_proto.specs.declared.line_end.LineEnd.{LineEnd}
+use Rattle.line_proto.specs.declared.line_end.LineEnd.TheVariants.{Whole, TooLong}
 use Rattle.line_proto.specs.Lines.{line_limit}
-
--- What is handed on of a line: the line without its LF, or only that one came that was too long.
-pub data LineEnd : Type 0 where
-  Whole : List ℕ → LineEnd
-  TooLong : LineEnd
 
 -- none is a line that is too long
 abbrev pub as_end : Option (List ℕ) → LineEnd
@@ -56,3 +53,43 @@ joined (byte ∷ kept) last = kept_of ((byte ∷ kept) ++ last)
 abbrev pub lent : (kept last : List ℕ) → List ℕ
 lent [] last = last
 lent (byte ∷ kept) last = byte ∷ kept
+
+-- ---- lines that are fed piece by piece, and handed on one by one
+
+-- What is kept: the lines that have come whole, and of the bytes after the last LF how many they are, and which, unless they are too many for a line.
+pub record Kept : Type 0 where
+  pub ready : List LineEnd
+  pub partial : List ℕ
+  pub size : ℕ
+
+-- what is kept stands for these bytes, which aren't handed on yet
+pub record KeepsBytes (kept : Kept) (bytes : List ℕ) : Type 0 where
+  pub lines : List (List ℕ)
+  pub rest : List ℕ
+  pub falls : FallInto bytes lines rest
+  pub are_ready : kept.ready ≡ map line_end lines
+  pub counted : kept.size ≡ min (length rest) (2 ^ 64 - 1)
+  pub is_partial : length rest ≤ line_limit → kept.partial ≡ rest
+
+-- nothing was fed yet
+abbrev pub nothing_kept : Kept
+nothing_kept = record { ready = []; partial = []; size = 0 }
+
+-- what is kept after more bytes of the open line
+abbrev pub with_bytes : Kept → List ℕ → Kept
+with_bytes kept bytes =
+    let size = min (kept.size + length bytes) (2 ^ 64 - 1) in
+    record { ready = kept.ready; partial = if nat_le size line_limit then kept.partial ++ bytes else kept.partial; size = size }
+
+-- the open line, where an LF ends it
+abbrev pub open_end : Kept → LineEnd
+open_end kept = if nat_le kept.size line_limit then Whole kept.partial else TooLong
+
+-- the first of the lines that these bytes begin with, and the bytes after it
+pub record BeginsWithLine (bytes : List ℕ) (end : LineEnd) (kept : Kept) : Type 0 where
+  pub line : List ℕ
+  pub after : List ℕ
+  pub first : bytes ≡ ended line ++ after
+  pub one_line : IsOneLine line
+  pub is_end : end ≡ line_end line
+  pub stands : KeepsBytes kept after

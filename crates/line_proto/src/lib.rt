@@ -2,6 +2,8 @@
 #![tactic(auto)]
 
 mod command;
+mod line_end;
+mod lines;
 mod open_line;
 mod parts;
 mod print;
@@ -9,8 +11,11 @@ mod read;
 mod reply;
 mod spell;
 mod store;
+mod tail;
 
 pub use command::Command;
+pub use line_end::LineEnd;
+pub use lines::Lines;
 pub use open_line::OpenLine;
 pub use parts::cut;
 pub use print::print_reply;

@@ -9,8 +9,8 @@ use Rattle.io_traits.specs.Source.{IsAtEnd}
 use Rattle.model_device.specs.Events.{Event}
 use Rattle.line_proto.specs.declared.reply.Reply.{Reply}
 use Rattle.line_proto.specs.declared.reply.Reply.TheVariants as reply
-use Rattle.line_proto.specs.Stream.{LineEnd}
-use Rattle.line_proto.specs.Stream.{TooLong}
+use Rattle.line_proto.specs.declared.line_end.LineEnd.{LineEnd}
+use Rattle.line_proto.specs.declared.line_end.LineEnd.TheVariants.{TooLong}
 use Rattle.line_proto.specs.Lines.{reply_text}
 use Rattle.line_proto.specs.Stream.{IsOneLine, ended, line_end}
 use Rattle.node_session.specs.declared.stop.Stop.{Stop}

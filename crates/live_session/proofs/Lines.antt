@@ -5,7 +5,7 @@ use Rattle.disk_model.specs.Disk.{DiskView}
 use Rattle.line_proto.specs.declared.reply.Reply.{Reply}
 use Rattle.line_proto.specs.declared.reply.Reply.TheVariants as reply
 use Rattle.line_proto.specs.declared.reply.LineFault.TheVariants as why
-use Rattle.line_proto.specs.Stream.{LineEnd}
+use Rattle.line_proto.specs.declared.line_end.LineEnd.{LineEnd}
 use Rattle.line_proto.specs.Lines.{reply_text}
 use Rattle.node_session.specs.Turns.{Times, Answers, CarriesOut, Declines, Quits, WholeTurn, Turns}
 use Rattle.live_store.specs.declared.store.LiveStore.{LiveStore}

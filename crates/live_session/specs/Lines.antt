@@ -9,7 +9,7 @@ use Rattle.line_proto.specs.declared.command.Command.TheVariants.{Quit}
 use Rattle.line_proto.specs.declared.reply.Reply.{Reply}
 use Rattle.line_proto.specs.declared.reply.Reply.TheVariants.{Bye, Fail}
 use Rattle.line_proto.specs.declared.reply.LineFault.TheVariants as why
-use Rattle.line_proto.specs.Stream.{LineEnd}
+use Rattle.line_proto.specs.declared.line_end.LineEnd.{LineEnd}
 use Rattle.line_proto.specs.Lines.{reply_text}
 use Rattle.node_session.specs.Turns.{Times, NamesNoCommand, IsCommand, MayLackMemory}
 use Rattle.live_node.specs.Calls.{IsRight}

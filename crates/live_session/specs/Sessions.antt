@@ -5,7 +5,7 @@ use Rattle.disk_model.specs.Disk.{DiskView}
 use Rattle.io_traits.specs.Source.{Shortens, IsAtEnd}
 use Rattle.io_traits.specs.Sink.{Extends}
 use Rattle.line_proto.specs.declared.reply.Reply.TheVariants.{Bye}
-use Rattle.line_proto.specs.Stream.{LineEnd}
+use Rattle.line_proto.specs.declared.line_end.LineEnd.{LineEnd}
 use Rattle.line_proto.specs.Stream.{FallInto, line_end}
 use Rattle.node_session.specs.declared.ended.Ended.{Ended}
 use Rattle.node_session.specs.declared.ended.Ended.TheVariants.{Finish, Quit, SourceFault, SinkFault, Memory, Halted, Long}

@@ -3,7 +3,7 @@ use Rattle.std.proofs.Common.{ℕ, List, [], ◌∷◌, ◌++◌, refl, sym, ◌
 use Rattle.std.proofs.lemmas.List.{append-nil}
 use Rattle.line_proto.specs.declared.command.Command.{Command}
 use Rattle.line_proto.specs.declared.reply.Reply.{Reply}
-use Rattle.line_proto.specs.Stream.{LineEnd}
+use Rattle.line_proto.specs.declared.line_end.LineEnd.{LineEnd}
 use Rattle.line_proto.specs.Lines.{reply_text}
 use Rattle.std.proofs.lemmas.Grind.{flat_map-append}
 use Rattle.node_session.specs.Turns.{Times, WholeTurn, Turns, HasTurns}

@@ -7,8 +7,8 @@ use Rattle.line_proto.specs.declared.command.Command.TheVariants.{Quit}
 use Rattle.line_proto.specs.declared.reply.Reply.{Reply}
 use Rattle.line_proto.specs.declared.reply.Reply.TheVariants.{Bye, Fail, Halted}
 use Rattle.line_proto.specs.declared.reply.LineFault.TheVariants.{Line, Memory}
-use Rattle.line_proto.specs.Stream.{LineEnd}
-use Rattle.line_proto.specs.Stream.{Whole, TooLong}
+use Rattle.line_proto.specs.declared.line_end.LineEnd.{LineEnd}
+use Rattle.line_proto.specs.declared.line_end.LineEnd.TheVariants.{Whole, TooLong}
 use Rattle.line_proto.specs.Lines.{IsCommandLine, IsNoCommand, IsPutToData, reply_text}
 use Rattle.node_session.specs.declared.stop.Stop.{Stop}
 use Rattle.node_session.specs.declared.stop.Stop.TheVariants.{Quit as QuitStop, Memory as MemoryStop, Halted as HaltStop}

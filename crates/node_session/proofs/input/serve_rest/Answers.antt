@@ -2,7 +2,7 @@ use Rattle.std.proofs.Common.{rules, ◌≡◌, ℕ, ◌+◌, List, [], ◌++◌
 use Rattle.std.specs.Prelude.{IfNone, IfSome}
 use Rattle.line_proto.specs.declared.command.Command.{Command}
 use Rattle.line_proto.specs.declared.reply.Reply.{Reply}
-use Rattle.line_proto.specs.Stream.{TooLong}
+use Rattle.line_proto.specs.declared.line_end.LineEnd.TheVariants.{TooLong}
 use Rattle.line_proto.specs.Lines.{reply_text}
 use Rattle.node_session.specs.declared.stop.Stop.{Stop}
 use Rattle.node_session.specs.declared.ended.Ended.{Ended}

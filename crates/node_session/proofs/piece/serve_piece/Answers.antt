@@ -1,6 +1,7 @@
 use Rattle.std.proofs.Common.{rules, ◌≡◌, ℕ, ◌+◌, List, [], ◌∷◌, ◌++◌, length, option_map, Some, None, refl, sym, ◌∙◌, ap, subst, inl, inr, arith, append_assoc, length-append}
 use Rattle.std.proofs.lemmas.List.{append-nil}
-use Rattle.line_proto.specs.Stream.{LineEnd, IsOneLine, as_end, line_end, ends_of, open_of, kept_of, joined, lent}
+use Rattle.line_proto.specs.declared.line_end.LineEnd.{LineEnd}
+use Rattle.line_proto.specs.Stream.{IsOneLine, as_end, line_end, ends_of, open_of, kept_of, joined, lent}
 use Rattle.line_proto.proofs.Falling.{end_lent, ends_over, open_over, ends_none, open_on}
 use Rattle.node_session.specs.declared.stop.Stop.{Stop}
 use Rattle.node_session.specs.Turns.{HasTurns, StopsAmong}

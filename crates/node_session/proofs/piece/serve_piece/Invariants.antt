@@ -1,6 +1,7 @@
 use Rattle.std.proofs.Common.{◌≡◌, ◌+◌, ◌<◌, ◌≤◌, List, ◌++◌, length}
 use Rattle.line_proto.specs.Lines.{line_limit}
-use Rattle.line_proto.specs.Stream.{LineEnd, ends_of, open_of}
+use Rattle.line_proto.specs.declared.line_end.LineEnd.{LineEnd}
+use Rattle.line_proto.specs.Stream.{ends_of, open_of}
 use Rattle.io_traits.specs.Sink.{AllHandedOn}
 use Rattle.node_session.specs.HandedOn.{reply_room}
 use Rattle.node_session.proofs.Collecting.{Collected}

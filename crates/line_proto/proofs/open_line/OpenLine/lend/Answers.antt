@@ -1,5 +1,6 @@
 use Rattle.std.proofs.Common.{◌≡◌, ◌∙◌, ap, rules}
-use Rattle.line_proto.specs.Stream.{Whole, TooLong, line_end}
+use Rattle.line_proto.specs.declared.line_end.LineEnd.TheVariants.{Whole, TooLong}
+use Rattle.line_proto.specs.Stream.{line_end}
 use Rattle.line_proto.proofs.Falling.{end_of_stream}
 use Rattle.line_proto.proofs.open_line.OpenLine.lend.Goals as goal
 
