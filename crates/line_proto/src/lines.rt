@@ -6,8 +6,8 @@ ghost use Rattle.line_proto.specs.Stream.{KeepsBytes, BeginsWithLine, IsOneLine,
 
 use crate::NoMemory;
 use crate::line_end::LineEnd;
-use crate::tail::Tail;
 use crate::parts::cut;
+use crate::tail::Tail;
 use std::alloc::Global;
 use std::collections::VecDeque;
 use std::marker::Model;
