@@ -32,10 +32,10 @@ ghost use Rattle.defrag_pass.specs.Moves.{Answers, CopiesRecord, IsDamageOf, IsS
 
 use crate::MoveRefusal;
 use crate::refusal::{append_refusal, read_refusal};
+use arena_sprig::Sprig;
 use block_shelf::{Class, Place, Shelf};
 use disk_model::Disk;
 use rec_format::{Digest, Entry, Version};
-use sprig_tree::Sprig;
 use std::alloc::Global;
 
 /// At `Ok(true)` the entry of the digest is no longer in the block: its record's copy, byte for byte as it was read, waits in the buffer

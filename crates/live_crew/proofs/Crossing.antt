@@ -4,7 +4,8 @@ use denote.Struct.Declared as declared
 use denote.Param.Send.{IsSend, IsSync, sendable, recorded_send, struct_send}
 use Rattle.std.proofs.Crossing.{crosses}
 use Rattle.disk_model.specs.declared.disk.Disk as disk
-use Rattle.sprig_tree.specs.contracts.sprig.Sprig as sprig
+use Rattle.arena_sprig.specs.contracts.sprig.Sprig as sprig
+use Rattle.arena_sprig.proofs.sprig.Sprig.TheSendSync as sprig_crosses
 use Rattle.turn_table.specs.contracts.rule.Place as place
 use Rattle.turn_table.specs.contracts.rule.View as view
 use Rattle.turn_table.specs.contracts.table.PassOf as pass
@@ -35,7 +36,7 @@ module _ (D : RattleType) (g : disk.Ghosts D.Denot) (s : IsSend D) (R : RattleTy
 
   pass_field_send : (E O : RattleType) → IsSend (pass.the_field (hub.the_row D g) sprig.the_row E O).row
   pass_field_send E O =
-      let sprigs : IsSend sprig.the_row = search (sendable, crosses) depth 20 in
+      let sprigs : IsSend sprig.the_row = sprig_crosses.the_send in
       let places = turn.place_send (hub.the_row D g) sprig.the_row E (hub_crosses.the_send D g s) sprigs in
       let seated = turn.seat_send (place.the_row (hub.the_row D g) sprig.the_row E) (view.the_row E O) places in search (sendable, crosses) depth 20
 

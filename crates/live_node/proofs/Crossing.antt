@@ -6,7 +6,8 @@ use Rattle.std.proofs.Crossing.{crosses}
 use Rattle.std.specs.contracts.alloc.Global as global
 use Rattle.std.specs.contracts.impls.GlobalAllocator.TheImpl as global_allocator
 use Rattle.disk_model.specs.declared.disk.Disk as disk
-use Rattle.sprig_tree.specs.contracts.sprig.Sprig as sprig
+use Rattle.arena_sprig.specs.contracts.sprig.Sprig as sprig
+use Rattle.arena_sprig.proofs.sprig.Sprig.TheSendSync as sprig_crosses
 use Rattle.atomic_table.specs.declared.shared.TableRule.{Ghosts}
 use Rattle.atomic_table.specs.contracts.owned.Table as owned
 use Rattle.atomic_table.specs.contracts.shared.Shared as shared
@@ -38,10 +39,10 @@ module _ (S V K Q P : RattleType) (g : Ghosts Q.Denot S.Denot V.Denot K.Denot) (
 -- ---- a device
 
 sprig_send : IsSend sprig.the_row
-sprig_send = search (sendable, crosses) depth 20
+sprig_send = sprig_crosses.the_send
 
 sprig_sync : IsSync sprig.the_row
-sprig_sync = search (sendable, crosses) depth 20
+sprig_sync = sprig_crosses.the_sync
 
 module _ (D : RattleType) (g : disk.Ghosts D.Denot) (s : IsSend D) where
   place_send : (E : RattleType) → IsSend (place.the_row (hub.the_row D g) sprig.the_row E)

@@ -12,8 +12,8 @@ use crate::live::Live;
 use crate::machine::LivePass;
 use crate::noted::{HubNotes, HubStepped, StepNotes, Stepped};
 use crate::steps::{EventCall, HubStep, Step};
+use arena_sprig::Sprig;
 use disk_model::Disk;
-use sprig_tree::Sprig;
 use std::alloc::Global;
 use turn_table::Noted;
 

@@ -16,11 +16,11 @@ ghost use Rattle.live_node.specs.Turns.{ExpiresNext};
 use crate::live::Live;
 use crate::machine::LivePass;
 use crate::steps::{EventCall, Step};
+use arena_sprig::Sprig;
 use block_shelf::Shelf;
 use disk_model::Disk;
 use rec_format::Digest;
 use shard_core::{ExpireRefusal, Settings, WriteRefusal, expire_step, next_expired};
-use sprig_tree::Sprig;
 use std::alloc::Global;
 use std::sync::Wait;
 

@@ -6,10 +6,10 @@ ghost use Rattle.live_node.specs.Opening.{Opening, IsOpening, state_at};
 ghost use Rattle.live_node.specs.Fits.{HubFits};
 ghost use Rattle.live_node.specs.Turns.{can_vacate};
 
+use arena_sprig::Tally;
 use block_shelf::Shelf;
 use disk_model::Disk;
 use rec_format::Counts;
-use sprig_tree::Tally;
 use std::alloc::{AllocFailed, Global};
 
 /// The shelf of a device, and how many records, tombstones and covered records there are. The shelf lies in a box, so a hub is moved by a few

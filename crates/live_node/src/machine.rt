@@ -1,9 +1,9 @@
 //! The machine of a device: which hubs and parts fit its list of events, and which events may follow.
 use crate::hub::Hub;
+use arena_sprig::Sprig;
 use block_shelf::Shelf;
 use disk_model::Disk;
 use shard_core::{Settings, Shard};
-use sprig_tree::Sprig;
 use std::marker::{Model, PhantomData};
 use turn_table::{Machine, Noted, Notes, Pass};
 

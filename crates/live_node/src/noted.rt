@@ -2,8 +2,8 @@
 use crate::hub::Hub;
 use crate::machine::{Happening, LivePass};
 use crate::steps::EventCall;
+use arena_sprig::Sprig;
 use disk_model::Disk;
-use sprig_tree::Sprig;
 use std::marker::PhantomData;
 use turn_table::Notes;
 

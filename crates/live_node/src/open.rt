@@ -14,11 +14,11 @@ ghost use Rattle.live_node.specs.Lives.{opening_at, IsPassAt, SameLive};
 use crate::hub::Hub;
 use crate::live::{Live, LiveOut};
 use crate::machine::{Device, DeviceState, LivePass};
+use arena_sprig::Sprig;
 use block_format::Geometry;
 use disk_model::Disk;
 use rec_format::{Digest, NoMemory};
 use shard_core::{Parts, Settings, Shard, tally_sum};
-use sprig_tree::Sprig;
 use std::alloc::{AllocError, Global};
 use turn_table::{NotClosed, NotMade, Noted, Table};
 

@@ -1,10 +1,10 @@
 // A read as a step over the sprig of a digest and the shelf.
 use crate::steps::{EventCall, Step};
+use arena_sprig::Sprig;
 use block_shelf::{ReadRefusal, Shelf};
 use disk_model::Disk;
 use rec_format::{Digest, Version};
 use shard_core::{Settings, get_step};
-use sprig_tree::Sprig;
 use std::alloc::Global;
 
 #[derive(Drop)]

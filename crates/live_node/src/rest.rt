@@ -15,10 +15,10 @@ ghost use Rattle.live_node.specs.Vacates.{MovesOut, MovesFirst, MovesNext, Leave
 use crate::live::Live;
 use crate::machine::LivePass;
 use crate::vacate::{Move, cause_of};
+use arena_sprig::Sprig;
 use disk_model::Disk;
 use rec_format::Digest;
 use shard_core::{DefragCause, DefragRefusal, first_in};
-use sprig_tree::Sprig;
 use std::alloc::Global;
 use std::sync::Wait;
 

@@ -11,10 +11,10 @@ ghost use Rattle.law_steps.specs.Standing.{ShelfStands, StandTogether};
 ghost use Rattle.law_steps.specs.Events.{MakesEvent, StepMakes};
 ghost use Rattle.shard_core.specs.View.{IsSettings, IsSetupBy, setup_for};
 
+use arena_sprig::Sprig;
 use block_shelf::Shelf;
 use disk_model::Disk;
 use shard_core::Settings;
-use sprig_tree::Sprig;
 use std::alloc::Global;
 
 /// A call that is one event of the device.

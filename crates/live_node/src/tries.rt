@@ -15,11 +15,11 @@ use crate::hub::Hub;
 use crate::live::Live;
 use crate::machine::LivePass;
 use crate::reads::Get;
+use arena_sprig::Sprig;
 use block_shelf::ReadRefusal;
 use disk_model::Disk;
 use rec_format::{Digest, Head, Version};
 use shard_core::{Meta, meta_step};
-use sprig_tree::Sprig;
 use std::alloc::Global;
 
 /// A slot was out. Parts are slots 0 and up, the shelf is the last.

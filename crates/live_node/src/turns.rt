@@ -14,10 +14,10 @@ use crate::hub::Hub;
 use crate::live::Live;
 use crate::machine::LivePass;
 use crate::steps::{HubStep, Step};
+use arena_sprig::Sprig;
 use disk_model::Disk;
 use partition_map::part_number;
 use rec_format::Digest;
-use sprig_tree::Sprig;
 use std::alloc::Global;
 use std::sync::Wait;
 

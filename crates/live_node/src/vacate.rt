@@ -14,6 +14,7 @@ ghost use Rattle.live_node.specs.Turns.{MovesRecord};
 use crate::live::Live;
 use crate::machine::LivePass;
 use crate::steps::{EventCall, Step};
+use arena_sprig::Sprig;
 use block_format::{capacity, most_records};
 use block_shelf::{Shelf, VacateRefusal};
 use defrag_pass::{MoveRefusal, move_one};
@@ -21,7 +22,6 @@ use disk_model::Disk;
 use partition_map::device_of;
 use rec_format::{Digest, NoMemory};
 use shard_core::{Damage, DefragCause, DefragRefusal, Settings, Vacated};
-use sprig_tree::Sprig;
 use std::alloc::Global;
 use std::sync::Wait;
 

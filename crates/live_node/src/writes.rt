@@ -1,10 +1,10 @@
 // Writes as steps over the sprig of a digest and the shelf.
 use crate::steps::{EventCall, Step};
+use arena_sprig::Sprig;
 use block_shelf::Shelf;
 use disk_model::Disk;
 use rec_format::{Digest, Stamp};
 use shard_core::{Settings, WriteRefusal, bury_step, delete_step, put_step};
-use sprig_tree::Sprig;
 use std::alloc::Global;
 
 #[derive(Drop)]

@@ -9,10 +9,10 @@ ghost use Rattle.shard_core.specs.Stands.{Agrees};
 ghost use Rattle.shard_core.specs.View.{setup_of};
 
 use crate::Shard;
+use arena_sprig::{Sprig, Tally};
 use disk_model::Disk;
 use partition_map::parts_of;
 use rec_format::Counts;
-use sprig_tree::{Sprig, Tally};
 
 impl<D: Disk> Shard<D> {
     /// How many records, tombstones and covered records there are, expired ones too; how many blocks are free, how many buffers aren't

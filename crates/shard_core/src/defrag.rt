@@ -23,11 +23,11 @@ ghost use Rattle.shard_core.specs.Failing.{FailsBy};
 
 use crate::refusals::{move_answer, vacate_cause};
 use crate::{DefragCause, DefragRefusal, Shard};
+use arena_sprig::Sprig;
 use defrag_pass::{choose_step, move_one};
 use disk_model::Disk;
 use partition_map::device_of;
 use rec_format::Digest;
-use sprig_tree::Sprig;
 use std::alloc::Global;
 
 /// A write block that was vacated, by its number, and how many records were moved out of it.

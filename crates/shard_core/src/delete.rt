@@ -25,11 +25,11 @@ ghost use Rattle.shard_core.specs.Failing.{FailsBy};
 use crate::sprigs::place_of_entry;
 use crate::write::{stamp_after, write_step};
 use crate::{Settings, WriteRefusal};
+use arena_sprig::Sprig;
 use block_shelf::{Class, Shelf};
 use disk_model::Disk;
 use expiry_rule::seen;
 use rec_format::{Bytes, Digest, Entry, Kind, Stamp, Version};
-use sprig_tree::Sprig;
 use std::alloc::Global;
 use tomb_rules::delete_writes;
 

@@ -27,11 +27,11 @@ ghost use Rattle.shard_core.specs.Failing.{FailsBy};
 
 use crate::delete::remove_entry;
 use crate::{ExpireRefusal, Settings, Shard, WriteRefusal};
+use arena_sprig::Sprig;
 use block_shelf::Shelf;
 use disk_model::Disk;
 use expiry_rule::expired_put;
 use rec_format::Digest;
-use sprig_tree::Sprig;
 use std::alloc::Global;
 
 /// At `Ok(true)` the entry of the digest, a put that was expired at `now`, in milliseconds, is removed; at `Ok(false)` it was no such

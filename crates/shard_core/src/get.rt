@@ -19,11 +19,11 @@ ghost use Rattle.law_steps.specs.Events.{StepMakes};
 
 use crate::sprigs::place_of_entry;
 use crate::{ReadRefusal, Settings};
+use arena_sprig::Sprig;
 use block_shelf::Shelf;
 use disk_model::Disk;
 use expiry_rule::seen;
 use rec_format::{Digest, Stamp, Version};
-use sprig_tree::Sprig;
 use std::alloc::Global;
 
 /// What is known of a record without reading it: its stamp (last update time and generation), its void time, the second from which it is

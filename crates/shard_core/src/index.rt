@@ -11,11 +11,11 @@ ghost use Rattle.shard_core.specs.Finding.{entry_kept, KeepsOne, AreLatest};
 
 use crate::Settings;
 use crate::sprigs::empty_sprigs;
+use arena_sprig::Sprig;
 use block_format::Geometry;
 use cold_scan::Kept;
 use partition_map::{part_number, parts_of};
 use rec_format::{Digest, Entry, NoMemory};
-use sprig_tree::Sprig;
 use std::alloc::Global;
 use std::collections::BTreeMap;
 

@@ -24,12 +24,12 @@ ghost use Rattle.shard_core.specs.Failing.{FailsBy};
 
 use crate::write::{stamp_after, write_step};
 use crate::{Settings, WriteRefusal};
+use arena_sprig::Sprig;
 use block_format::capacity;
 use block_shelf::{Class, Shelf};
 use disk_model::Disk;
 use expiry_rule::{seen, void_of};
 use rec_format::{Bytes, Digest, Entry, Kind, NoMemory, Stamp, Version, units_of};
-use sprig_tree::Sprig;
 use std::alloc::Global;
 use tomb_rules::cover_after;
 

@@ -5,10 +5,10 @@ ghost use Rattle.shard_core.specs.Stands.{IsWhole};
 
 use crate::Settings;
 use crate::counts::tally_sum;
+use arena_sprig::{Sprig, Tally};
 use block_shelf::Shelf;
 use disk_model::Disk;
 use rec_format::Digest;
-use sprig_tree::{Sprig, Tally};
 use std::marker::Model;
 
 /// A device with its primary index: the sprig of each part, in the order of their numbers, and the tally of all of them.

@@ -5,9 +5,9 @@ ghost use Rattle.shard_core.specs.Sprigs.{IsEmptySprig, all_entries};
 ghost use Rattle.law_steps.specs.Sprigs.{place_of};
 ghost use Rattle.shard_core.specs.Finding.{live_places};
 
+use arena_sprig::Sprig;
 use block_shelf::Place;
 use rec_format::{Digest, Entry, NoMemory};
-use sprig_tree::Sprig;
 use std::alloc::Global;
 
 /// So many empty sprigs.

@@ -35,10 +35,10 @@ use crate::flush::flush_up_to;
 use crate::refusals::write_refusal;
 use crate::sprigs::place_of_entry;
 use crate::{Settings, WriteRefusal};
+use arena_sprig::Sprig;
 use block_shelf::{Class, Place, Shelf};
 use disk_model::Disk;
 use rec_format::{Digest, Entry, Stamp, Version, next_stamp};
-use sprig_tree::Sprig;
 use std::alloc::Global;
 
 /// Writes a version of a digest, whose entry so far is `found`, and answers its stamp. It goes to a write buffer; with commit on it is

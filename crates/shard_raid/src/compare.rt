@@ -14,11 +14,11 @@ ghost use Rattle.shard_raid.specs.Marks.{HasMarksBy, is_marked_by, Unmarks};
 ghost use Rattle.shard_raid.specs.Raids.{turns_left};
 
 use crate::mark::with_mark;
+use arena_sprig::Sprig;
 use block_shelf::Shelf;
 use disk_model::Disk;
 use raid_book::RaidNext;
 use rec_format::{Digest, Entry, Stamp};
-use sprig_tree::Sprig;
 use tomb_rules::older;
 
 /// Each entry of which a copy was found that is earlier has no mark then: it has to stay as it is, since the copy would come back without

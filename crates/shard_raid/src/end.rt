@@ -21,11 +21,11 @@ ghost use Rattle.shard_raid.specs.Marks.{is_marked_by};
 ghost use Rattle.shard_raid.specs.Ends.{SparesOlder, EndsMarked, EndsOne, end_steps, StandAtEnd, GoTogether, SameDisk};
 
 use crate::compare::is_marked_by;
+use arena_sprig::Sprig;
 use block_shelf::{Place, Shelf};
 use disk_model::Disk;
 use raid_book::RaidNext;
 use rec_format::{Entry, Kind};
-use sprig_tree::Sprig;
 
 /// Each marked tombstone of the part has lost its entry then, and each marked put its cover flag, and it answers how many of either; over
 /// an honest disk whose image was sound none of them has an older copy in a pending buffer or in an image that a crash may leave. The

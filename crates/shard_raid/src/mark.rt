@@ -11,11 +11,11 @@ ghost use Rattle.law_steps.specs.Standing.{StandTogether};
 ghost use Rattle.law_steps.specs.Events.{StepMakes};
 ghost use Rattle.shard_raid.specs.Marks.{HasHighTime, HasMarksBy};
 
+use arena_sprig::Sprig;
 use block_shelf::Shelf;
 use disk_model::Disk;
 use raid_book::RaidNext;
 use rec_format::Entry;
-use sprig_tree::Sprig;
 use tomb_rules::eligible;
 
 /// Each entry of the part that may go has the raid's number as its mark then, a tombstone of at least `age` seconds or a covered put, and

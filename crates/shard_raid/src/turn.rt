@@ -17,10 +17,10 @@ ghost use Rattle.shard_raid.specs.Raids.{IsNext, StandOn};
 ghost use Rattle.shard_raid.specs.Turns.{CountsEnds, TakesTurn, TurnLeaves, TurnMakes};
 
 use crate::{Raid, RaidRefusal, raid_apply, raid_end, raid_mark, raid_scan};
+use arena_sprig::Sprig;
 use block_shelf::Shelf;
 use disk_model::Disk;
 use raid_book::{RaidBook, RaidNext};
-use sprig_tree::Sprig;
 use std::alloc::Global;
 
 /// What a turn of a raid did.

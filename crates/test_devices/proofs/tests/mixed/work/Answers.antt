@@ -4,7 +4,8 @@ use denote.Param.Send.{IsSend, sendable, recorded_send, struct_send}
 use Rattle.std.proofs.Crossing.{crosses}
 use Rattle.disk_model.specs.contracts.mem.MemDisk as disk
 use Rattle.disk_model.specs.contracts.mem.MemDiskDisk.TheImpl as disk_impl
-use Rattle.sprig_tree.specs.contracts.sprig.Sprig as sprig
+use Rattle.arena_sprig.specs.contracts.sprig.Sprig as sprig
+use Rattle.arena_sprig.proofs.sprig.Sprig.TheSendSync as sprig_crosses
 use Rattle.turn_table.specs.contracts.rule.Place as place
 use Rattle.turn_table.specs.contracts.rule.View as view
 use Rattle.turn_table.specs.contracts.table.PassOf as pass
@@ -20,7 +21,7 @@ use Rattle.test_devices.proofs.Crossing.{disk_send, disk_live_sync}
 use Rattle.test_devices.proofs.tests.mixed.work.Goals as goal
 
 sprig_send : IsSend sprig.the_row
-sprig_send = search (sendable, crosses) depth 20
+sprig_send = sprig_crosses.the_send
 
 -- a pass as a field
 pass_field_send : (E O : RattleType) → IsSend (pass.the_field (hub.the_row disk.the_row disk_impl.ghosts) sprig.the_row E O).row
