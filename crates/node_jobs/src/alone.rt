@@ -24,19 +24,21 @@ use disk_model::Disk;
 use io_traits::{Clock, Sink, Source};
 use model_node::RunEnd;
 use node_words::{Job, read_words};
+use sprig_advice::Teller;
 use std::alloc::Global;
 
 /// Does what the words ask for on one thread, and answers how it ended, as a status and a note, and the disks, in order. The words don't have the
 /// program's name among them, and the disks are those of the devices that they name, in order. `format` makes them devices, `run` serves the lines
 /// of the link over them, `check` tells what is on them, `audit` whether their images are sound, `gen` makes them devices and serves a script of
 /// its own over them: what stands after each, and after a crash, is as with `format_with`, `run_with`, `check_with` and `gen_with`. Other words, and
-/// those of `serve`, are refused, and leave the disks, the link and the clock as they were.
-pub fn job_alone<D: Disk, L: Source + Sink, C: Clock>(
+/// those of `serve`, are refused, and leave the disks, the link and the clock as they were. The teller is told of the start of a `run`.
+pub fn job_alone<D: Disk, L: Source + Sink, C: Clock, T: Teller>(
     alloc: Global,
     words: &[String],
     disks: Vec<D>,
     link: &mut L,
     clock: &mut C,
+    teller: &T,
 ) -> Outcome<D>
     requires disks { (job : Job) (names : List (List ℕ)) → Asks (map string_bytes words.now) job names → vec_len disks ≡ length names }
     ensures refused { ((job : Job) (names : List (List ℕ)) → Asks (map string_bytes words.now) job names → IsServe job)
@@ -73,7 +75,7 @@ pub fn job_alone<D: Disk, L: Source + Sink, C: Clock>(
     };
     match request.job {
         Job::Format(shape) => format_with(shape, disks, link),
-        Job::Run(tuning) => run_with(alloc, settings_of(&tuning), disks, link, clock),
+        Job::Run(tuning) => run_with(alloc, settings_of(&tuning), disks, link, clock, teller),
         Job::Serve { .. } => Outcome::new(RunEnd::WordsRefused, disks),
         Job::Check => check_with(alloc, Telling::Counts, disks, link),
         Job::Audit => check_with(alloc, Telling::Soundness, disks, link),

@@ -7,6 +7,7 @@ ghost use Rattle.live_serve.specs.Serving.{ServesLink};
 ghost use Rattle.law_serve.specs.Promises.{Serves, first_failed, disks_closed, serving_end};
 
 use crate::outcome::{Outcome, after_closing, after_refusal};
+use crate::started::tell_all_started;
 use core_run::{start_all, stop_all};
 use disk_model::Disk;
 use io_traits::{Clock, Door, Nudge};
@@ -14,6 +15,7 @@ use live_serve::{Closing, Served, name_each, serve_shards, stop_closed};
 use model_node::RunEnd;
 use node_serve::Closed;
 use shard_core::Settings;
+use sprig_advice::Teller;
 use std::alloc::Global;
 use std::sync::Wait;
 use std::thread::Threads;
@@ -65,13 +67,14 @@ fn outcome_of<D: Disk>(
 /// ended, as a status and a note, the disks, in order, and the door. Each link that the door gives is served. Beside the links four workers of each device flush, vacate blocks, remove what
 /// is expired and raid tombs. At status 0 the door gave none and nothing is pending. The caller may know that the disks are honest, that each has
 /// one image, and that it is sound; then a crash leaves of a device at each moment what some state of its list of events allows, and from the end
-/// on what its last state allows.
+/// on what its last state allows. The teller is told of the start.
 pub fn serve_with<
     R: Threads + Wait + std::rt::Clock + Sync,
     D: Disk + Send,
     C: Clock + Send,
     G: Door + Send,
     N: Nudge + Sync,
+    T: Teller,
 >(
     rt: &R,
     alloc: Global,
@@ -82,6 +85,7 @@ pub fn serve_with<
     clock: &C,
     door: G,
     nudge: &N,
+    teller: &T,
 ) -> (Outcome<D>, G)
     requires disks { (1 ≤ vec_len disks) × (vec_len disks ≤ 16) }
     requires set { IsSettings set }
@@ -102,6 +106,7 @@ pub fn serve_with<
                 stop_all(&mut shards, &mut disks);
                 return (Outcome::new(RunEnd::NoMemory, disks), door);
             };
+            tell_all_started(teller, &shards, set.sprigs);
             let served = serve_shards(
                 rt, alloc, shards, states, closings, seats, clock, door, nudge,
             );

@@ -1,5 +1,6 @@
 // One line of a terminal that tells how far work is. No clause says what is written to a terminal.
 use disk_file::Watch;
+use sprig_advice::{Advice, Teller, better};
 use std::io::IsTerminal;
 use std::sync::Mutex;
 use std::sync::atomic::{AtomicBool, Ordering};
@@ -106,6 +107,29 @@ impl<E: Eprint + IsTerminal + Drop> Progress<E> {
     /// What tells how far a new file is.
     pub fn making(&self) -> Making<'_, E> {
         Making { progress: self }
+    }
+}
+
+// A terminal is told where another number of sprigs would take a third less memory.
+impl<E: Eprint + IsTerminal + Drop> Teller for Progress<E> {
+    fn started(&self, entries: u64, sprigs: u32) {
+        if !self.is_terminal {
+            return;
+        }
+        let Some(
+            Advice {
+                sprigs: other,
+                bytes,
+                fewer,
+            },
+        ) = better(entries, sprigs)
+        else {
+            return;
+        };
+        self.end();
+        let _ = self.to.eprint(format_args!(
+            "hint: with --sprigs {sprigs} the index takes about {bytes} bytes for each of {entries} records; with --sprigs {other} it would take about {fewer}\n"
+        ));
     }
 }
 

@@ -13,6 +13,7 @@ use node_progress::{Cleared, CountedClock, Progress, Watched};
 use node_words::{Job, read_words};
 use scenario_play::{Around, Ending, Noted, NotedClock, Notes};
 use scenario_text::Trouble;
+use sprig_advice::{Silent, Teller};
 use std::alloc::Global;
 use std::io::IsTerminal;
 
@@ -27,17 +28,18 @@ fn names_so_many(words: &[String], count: usize) -> bool
 }
 
 // The program with these words; none where these name more disks, or fewer.
-fn top<D: Disk, L: Source + Sink, C: Clock>(
+fn top<D: Disk, L: Source + Sink, C: Clock, T: Teller>(
     alloc: Global,
     words: &[String],
     disks: Vec<D>,
     link: &mut L,
     clock: &mut C,
+    teller: &T,
 ) -> Option<Outcome<D>> {
     if !names_so_many(words, disks.len()) {
         return None;
     }
-    let outcome = job_alone(alloc, words, disks, link, clock);
+    let outcome = job_alone(alloc, words, disks, link, clock, teller);
     Some(outcome)
 }
 
@@ -105,7 +107,7 @@ fn start_plainly<D: Disk, C: Clock>(
     mut clock: C,
 ) -> Result<Came<D>, Trouble> {
     let mut link = Link::new(alloc, around)?;
-    let Some(outcome) = top(alloc, words, disks, &mut link, &mut clock) else {
+    let Some(outcome) = top(alloc, words, disks, &mut link, &mut clock, &Silent) else {
         return Err(unnamed());
     };
     Ok(Came {
@@ -160,7 +162,7 @@ fn start_shown<D: Disk, C: Clock, E: Eprint + IsTerminal + Drop>(
     let mut clock = CountedClock::new(clock, progress, lines_asked(words));
     let mut link = Cleared::new(Link::new(alloc, around)?, progress);
     let disks = watched(alloc, disks, progress)?;
-    let Some(outcome) = top(alloc, words, disks, &mut link, &mut clock) else {
+    let Some(outcome) = top(alloc, words, disks, &mut link, &mut clock, progress) else {
         return Err(unnamed());
     };
     progress.end();

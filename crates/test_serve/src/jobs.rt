@@ -9,6 +9,7 @@ use io_traits::{
 };
 use node_jobs::{Outcome, node_top};
 use node_words::read_words;
+use sprig_advice::Silent;
 use std::alloc::{AllocError, Global};
 use std::sync::Wait;
 use std::test::Fail;
@@ -59,7 +60,9 @@ fn carried_out<
     let disks = disks_for(words, disks)?;
     // Of the images nothing is known.
     let sound = Noted::new();
-    let (outcome, _door) = node_top(rt, alloc, words, &sound, disks, link, clock, door, nudge);
+    let (outcome, _door) = node_top(
+        rt, alloc, words, &sound, disks, link, clock, door, nudge, &Silent,
+    );
     Some(outcome)
 }
 

@@ -1,0 +1,51 @@
+// The bytes of one sprig.
+ghost use Rattle.std.specs.Prelude.{◌≤◌, ◌^◌};
+
+use arena_sprig::Sprig;
+use rec_format::Entry;
+
+/// A sprig without entries.
+const SPRIG: u64 = size_of::<Sprig>() as u64;
+
+/// A slot: its entry, and 4 bytes each for its place among the free ones, for its two links and for the size of what hangs there.
+const SLOT: u64 = size_of::<Entry>() as u64 + 16;
+
+/// What leads to a stage of slots.
+const STAGE: u64 = size_of::<Vec<Entry>>() as u64;
+
+/// How many slots there are where there is room for so many entries: a stage has four more than all before it, and 4,096 at most.
+fn slots_for(entries: u64) -> u64
+    ensures { result ≤ 2 ^ 33 }
+{
+    let entries = entries.min(u64::from(u32::MAX));
+    if entries <= 4092 {
+        (entries + 4).next_power_of_two().saturating_sub(4)
+    } else {
+        ((entries + 4).div_ceil(4096) * 4096).saturating_sub(4)
+    }
+}
+
+/// How many stages so many slots lie in.
+fn stages_of(slots: u64) -> u64
+    ensures { result ≤ 2 ^ 21 }
+{
+    let slots = slots.min(u64::from(u32::MAX));
+    if slots < 4096 {
+        u64::from((slots + 4).ilog2()).saturating_sub(2)
+    } else {
+        slots / 4096 + 10
+    }
+}
+
+/// The bytes that a sprig asks for that has so many entries, and never had more.
+pub fn bytes_for(entries: u64) -> u64 {
+    let slots = slots_for(entries);
+    let stages = stages_of(slots);
+    // They lie in a vector, which begins with room for four and doubles.
+    let headers = if stages == 0 {
+        0
+    } else {
+        stages.max(4).next_power_of_two()
+    };
+    SPRIG + slots * SLOT + headers * STAGE
+}
