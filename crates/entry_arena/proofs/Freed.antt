@@ -14,7 +14,7 @@ use Rattle.entry_arena.specs.Free.{IsFree}
 abbrev one_if : Option Entry → ℕ
 one_if o = cond (is_some o) 1 0
 
-abbrev no_entry : Option Entry
+abbrev pub no_entry : Option Entry
 no_entry = None
 
 pub few_free : (slots : List (Option Entry)) (free : List ℕ) (capacity : ℕ) → IsFree slots free capacity → length free ≤ length slots

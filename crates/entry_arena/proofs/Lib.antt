@@ -1,5 +1,11 @@
 pub mod Widths
+pub mod Steps
+pub mod Cell
+pub mod Rows
+pub mod Handle
+pub mod Fields
+pub mod Block
+pub mod Allocated
 pub mod Staged
 pub mod Freed
-pub mod Vacated
 pub mod Grown

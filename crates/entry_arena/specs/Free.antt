@@ -1,15 +1,6 @@
 -- The slots of an arena that aren't in use.
-use Rattle.std.specs.Prelude.{◌≡◌, ◌≢◌, ℕ, ◌+◌, ◌^◌, ◌<◌, ◌≤◌, List, [], ◌∷◌, length, map, Option, None, Some, is_some, count_by, slice_index_or, slice_set}
+use Rattle.std.specs.Prelude.{◌≡◌, ◌≢◌, ℕ, ◌+◌, ◌^◌, ◌<◌, ◌≤◌, List, length, Option, None, is_some, count_by, slice_index_or}
 use Rattle.rec_format.specs.declared.entry.Entry.{Entry}
-
--- the slots, of which these have no entry
-abbrev pub vacated : List ℕ → List (Option Entry) → List (Option Entry)
-vacated [] slots = slots
-vacated (slot ∷ free) slots = vacated free (slice_set slots slot None)
-
--- each slot has the entry that stands there, but for those that aren't in use
-abbrev pub slots_of : List ℕ → List Entry → List (Option Entry)
-slots_of free entries = vacated free (map Some entries)
 
 -- the list has each slot without an entry once, and room for all slots, whose numbers have 32 bits
 pub record IsFree (slots : List (Option Entry)) (free : List ℕ) (capacity : ℕ) : Type 0 where

@@ -1,3 +1,4 @@
 pub mod State
+pub mod Cells
 pub mod Stages
 pub mod Free

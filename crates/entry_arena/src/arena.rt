@@ -21,13 +21,13 @@ pub struct Arena {
 impl Model for Arena {
     ghost use Rattle.std.specs.Prelude.{vec_len, vec_capacity};
     ghost use Rattle.entry_arena.specs.State.{ArenaState};
-    ghost use Rattle.entry_arena.specs.Free.{slots_of, IsFree};
+    ghost use Rattle.entry_arena.specs.Free.{IsFree};
 
     ghost Value = { ArenaState };
 
-    ghost view = { λ a. record { slots = slots_of a.free.items a.stages; spare = vec_len a.free } };
+    ghost view = { λ a. record { slots = a.stages; spare = vec_len a.free } };
 
-    ghost invariant = { λ a. IsFree (slots_of a.free.items a.stages) a.free.items (vec_capacity a.free) };
+    ghost invariant = { λ a. IsFree a.stages a.free.items (vec_capacity a.free) };
 }
 
 impl Arena {
@@ -104,7 +104,7 @@ impl Arena {
         ensures rest { self.new ≡ record { slots = slice_set self.old.slots result (Some entry); spare = self.old.spare - 1 } }
     {
         let slot = self.free.pop().unwrap();
-        self.stages.set(slot, entry);
+        self.stages.put(slot, entry);
         slot
     }
 
@@ -121,7 +121,7 @@ impl Arena {
         requires { IsSome (entry_at self.old slot) }
         ensures { self.new ≡ record self.old { slots = slice_set self.old.slots slot (Some entry) } }
     {
-        self.stages.set(slot, entry);
+        self.stages.put(slot, entry);
     }
 
     /// Takes the entry out of a slot, which isn't in use from then on. It takes no memory.
@@ -130,7 +130,7 @@ impl Arena {
         ensures value { entry_at self.old slot ≡ Some result }
         ensures rest { self.new ≡ record { slots = slice_set self.old.slots slot None; spare = self.old.spare + 1 } }
     {
-        let entry = *self.stages.get(slot);
+        let entry = self.stages.take(slot);
         self.free.push_reserved(slot);
         entry
     }

@@ -2,6 +2,7 @@
 #![tactic(auto)]
 
 mod arena;
+mod cells;
 mod sizes;
 mod stages;
 

@@ -1,40 +1,28 @@
-// Entries in stages. A stage takes all its memory at once, and its entries never move: only the vector of the stages does.
-ghost use Rattle.std.specs.Prelude.{◌≡◌, ◌<◌, [], length, OnOk, OnErr, slice_index_or, slice_set};
-ghost use Rattle.entry_arena.specs.Stages.{Adds};
+// Entries in stages. A stage takes all its memory at once, and its cells never move: only the vector of the stages does.
+ghost use Rattle.std.specs.Prelude.{◌≡◌, ◌<◌, ◌++◌, [], length, replicate, None, Some, IsSome, OnOk, OnErr, slice_index_or, slice_set};
+ghost use Rattle.entry_arena.specs.State.{width_after};
 
 use crate::NoMemory;
+use crate::cells::Cells;
 use crate::sizes::{locate, next_width};
-use rec_format::{Digest, Entry, Kind, Stamp};
+use rec_format::Entry;
 use std::alloc::{AllocError, Global};
 use std::marker::Model;
 
-/// What stands in a slot into which nothing was put yet.
-const BLANK: Entry = Entry {
-    digest: Digest([0; 20]),
-    block: 0,
-    stamp: Stamp { lut: 0, gen_: 0 },
-    void: 0,
-    mark: 0,
-    unit: 0,
-    units: 0,
-    kind: Kind::Put,
-    cover: false,
-};
-
-/// An entry for each slot, blank until one is set.
+/// A cell for each slot.
 #[derive(Drop)]
 pub struct Stages {
-    stages: Vec<Vec<Entry>>,
+    stages: Vec<Cells>,
     total: u32,
     alloc: Global,
 }
 
 impl Model for Stages {
-    ghost use Rattle.std.specs.Prelude.{List};
+    ghost use Rattle.std.specs.Prelude.{List, Option};
     ghost use Rattle.rec_format.specs.declared.entry.Entry.{Entry};
     ghost use Rattle.entry_arena.specs.Stages.{flat, IsStaged};
 
-    ghost Value = { List Entry };
+    ghost Value = { List (Option Entry) };
 
     ghost view = { λ s. flat s.stages.items };
 
@@ -58,9 +46,9 @@ impl Stages {
         self.total
     }
 
-    /// One stage more, or nothing.
+    /// One stage more, whose cells are empty, or nothing.
     pub fn grow(&mut self) -> Result<(), NoMemory>
-        ensures ok { OnOk result (Adds self.old self.new) }
+        ensures ok { OnOk result (self.new ≡ self.old ++ replicate (width_after (length self.old)) None) }
         ensures err { OnErr result (self.new ≡ self.old) }
     {
         let count = next_width(self.total);
@@ -68,25 +56,37 @@ impl Stages {
             return Err(AllocError);
         }
         self.stages.reserve(1)?;
-        let stage = Vec::from_elem(self.alloc, BLANK, count as usize)?;
+        let stage = Cells::new(count as usize, self.alloc)?;
         self.stages.push_reserved(stage);
         self.total += count;
         Ok(())
     }
 
+    /// The entry of a slot that has one.
     pub fn get(&self, slot: u32) -> &Entry
-        requires { slot < length self.now }
-        ensures { slice_index_or self.now slot result.now ≡ result.now }
+        requires { IsSome (slice_index_or self.now slot None) }
+        ensures { slice_index_or self.now slot None ≡ Some result.now }
     {
         let (stage, place) = locate(slot);
-        &self.stages[stage][place]
+        self.stages[stage].get(place)
     }
 
-    pub fn set(&mut self, slot: u32, entry: Entry)
+    /// Puts an entry into a slot, whether it has one or not.
+    pub fn put(&mut self, slot: u32, entry: Entry)
         requires { slot < length self.old }
-        ensures { self.new ≡ slice_set self.old slot entry }
+        ensures { self.new ≡ slice_set self.old slot (Some entry) }
     {
         let (stage, place) = locate(slot);
-        self.stages[stage][place] = entry;
+        self.stages[stage].put(place, entry);
+    }
+
+    /// Takes the entry out of a slot that has one.
+    pub fn take(&mut self, slot: u32) -> Entry
+        requires { IsSome (slice_index_or self.old slot None) }
+        ensures value { slice_index_or self.old slot None ≡ Some result }
+        ensures rest { self.new ≡ slice_set self.old slot None }
+    {
+        let (stage, place) = locate(slot);
+        self.stages[stage].take(place)
     }
 }

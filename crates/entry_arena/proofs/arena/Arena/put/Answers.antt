@@ -2,55 +2,36 @@ use Rattle.std.proofs.Common.{rules, ◌≡◌, ◌-◌, ◌<◌, sym, ap, subst
 use Rattle.std.specs.Prelude.{vec_len, vec_capacity, option_to_list}
 use Rattle.rec_format.specs.declared.entry.Entry.{Entry}
 use Rattle.entry_arena.specs.State.{ArenaState}
-use Rattle.entry_arena.specs.Free.{slots_of, IsFree}
+use Rattle.entry_arena.specs.Free.{IsFree}
 use Rattle.std.proofs.lemmas.List.{length_push}
 use Rattle.entry_arena.proofs.Grown.{state}
-use Rattle.entry_arena.proofs.Freed.{slot_within, put_others, put_kept}
-use Rattle.entry_arena.proofs.Vacated.{length-slots_of, slots_of_put}
+use Rattle.entry_arena.proofs.Freed.{slot_within, slot_vacant, put_kept}
 use Rattle.entry_arena.proofs.arena.Arena.put.Goals.{After-unwrap-slot}
 use Rattle.entry_arena.proofs.arena.Arena.put.Goals as goal
 
 stacked : (c : After-unwrap-slot) → c.self.inside.free.items ≡ c.pop.new.self.items ++ c.unwrap-slot.result ∷ []
 stacked c = c.pop.ensures.items ∙ ap (λ (o : Option ℕ). c.pop.new.self.items ++ option_to_list o) c.unwrap-slot.ensures
 
-free : (c : After-unwrap-slot) → IsFree (slots_of (c.pop.new.self.items ++ c.unwrap-slot.result ∷ []) c.self.inside.stages) (c.pop.new.self.items ++ c.unwrap-slot.result ∷ [])
-    (vec_capacity c.self.inside.free)
-free c = subst (λ (l : List ℕ). IsFree (slots_of l c.self.inside.stages) l (vec_capacity c.self.inside.free)) (stacked c) c.self.invariant
+free : (c : After-unwrap-slot) → IsFree c.self.inside.stages (c.pop.new.self.items ++ c.unwrap-slot.result ∷ []) (vec_capacity c.self.inside.free)
+free c = subst (λ (l : List ℕ). IsFree c.self.inside.stages l (vec_capacity c.self.inside.free)) (stacked c) c.self.invariant
 
-pub set-requires : goal.set-requires
-set-requires c =
-    let rest = c.pop.new.self.items in
-    let slot = c.unwrap-slot.result in
-    let slots = slots_of (rest ++ slot ∷ []) c.self.inside.stages in
-    subst (λ n. slot < n) (length-slots_of (rest ++ slot ∷ []) c.self.inside.stages)
-    (slot_within slots rest slot (vec_capacity c.self.inside.free) c.args.entry (free (goal.at.set-requires c).After-unwrap-slot))
-
-written : (c : goal.After-set) → slots_of c.pop.new.self.items c.set.new.self
-    ≡ set (slots_of (c.pop.new.self.items ++ c.unwrap-slot.result ∷ []) c.self.inside.stages) c.unwrap-slot.result (Some c.args.entry)
-written c =
-    let rest = c.pop.new.self.items in
-    let slot = c.unwrap-slot.result in
-    let slots = slots_of (rest ++ slot ∷ []) c.self.inside.stages in
-    ap (λ (l : List Entry). slots_of rest l) c.set.ensures
-    ∙ slots_of_put rest c.self.inside.stages slot c.args.entry (put_others slots rest slot (vec_capacity c.self.inside.free) c.args.entry (free (goal.at.invariant_of-self c).After-unwrap-slot))
+pub put-requires : goal.put-requires
+put-requires c =
+    slot_within c.self.inside.stages c.pop.new.self.items c.unwrap-slot.result (vec_capacity c.self.inside.free) c.args.entry (free (goal.at.put-requires c).After-unwrap-slot)
 
 pub invariant_of-self : goal.invariant_of-self
 invariant_of-self c =
     let rest = c.pop.new.self.items in
     let slot = c.unwrap-slot.result in
-    let slots = slots_of (rest ++ slot ∷ []) c.self.inside.stages in
-    let kept = put_kept slots rest slot (vec_capacity c.self.inside.free) c.args.entry (free (goal.at.invariant_of-self c).After-unwrap-slot) in
+    let kept = put_kept c.self.inside.stages rest slot (vec_capacity c.self.inside.free) c.args.entry (free (goal.at.invariant_of-self c).After-unwrap-slot) in
     let same : vec_capacity c.self.inside.free ≡ vec_capacity c.pop.new.self = search rules in
-    let at = subst (λ n. IsFree (set slots slot (Some c.args.entry)) rest n) same kept in
-    subst (λ (l : List (Option Entry)). IsFree l rest (vec_capacity c.pop.new.self)) (sym (written c)) at
+    let at = subst (λ n. IsFree (set c.self.inside.stages slot (Some c.args.entry)) rest n) same kept in
+    subst (λ (l : List (Option Entry)). IsFree l rest (vec_capacity c.pop.new.self)) (sym c.put.ensures) at
 
 pub returns-clause-rest : goal.returns-clause-rest
 returns-clause-rest c =
     let slot = c.unwrap-slot.result in
-    let seen : slots_of (c.pop.new.self.items ++ slot ∷ []) c.self.inside.stages
-    ≡ c.args.self.now.slots = ap (λ (l : List ℕ). slots_of l c.self.inside.stages) (sym (stacked (goal.at.returns-clause-rest c).After-unwrap-slot))
-    ∙ ap (λ (s : ArenaState). s.slots) c.self.view_is in
-    let slots = written c ∙ ap (λ (l : List (Option Entry)). set l slot (Some c.args.entry)) seen in
+    let slots = c.put.ensures ∙ ap (λ (s : ArenaState). set s.slots slot (Some c.args.entry)) c.self.view_is in
     let spare : vec_len c.pop.new.self ≡ c.args.self.now.spare - 1 =
     (let was : vec_len c.self.inside.free ≡ c.args.self.now.spare = ap (λ (s : ArenaState). s.spare) c.self.view_is in
     let more = ap length (stacked (goal.at.returns-clause-rest c).After-unwrap-slot) in let size = length_push c.pop.new.self.items slot in

@@ -1,4 +1,6 @@
-use Rattle.std.proofs.Common.{rules, ◌≡◌, List, length, ◌+◌, ◌∷◌, [], ◌++◌, sym, ap, subst, ◌∙◌, arith, length-append}
+use Rattle.std.proofs.Common.{◌≡◌, List, Option, None, length, ◌+◌, ◌∷◌, [], ◌++◌, sym, ap, subst, ◌∙◌, arith, length-append}
+use Rattle.std.specs.Prelude.{replicate}
+use Rattle.std.proofs.lemmas.List.{length-replicate}
 use Rattle.rec_format.specs.declared.entry.Entry.{Entry}
 use Rattle.entry_arena.specs.State.{width_after}
 use Rattle.entry_arena.specs.Stages.{flat, width_of, first_of, HaveWidths}
@@ -16,17 +18,17 @@ wide c =
     let total : c.self.inside.total ≡ first_of (length c.self.inside.stages.items) = omega (arith, c.self.invariant.counted) in
     c.next_width-count.ensures ∙ ap width_after total ∙ sym (width_by_first (length c.self.inside.stages.items))
 
-slots_new : (c : goal.After-self-1) → flat c.push_reserved.new.self.items ≡ flat c.self.inside.stages.items ++ c.in_ok-stage.stage.items
+slots_new : (c : goal.After-self-1) → flat c.push_reserved.new.self.items ≡ flat c.self.inside.stages.items ++ c.in_ok-stage.stage.cells
 slots_new c = ap (λ vs. flat vs) (items_new c) ∙ flat_push c.self.inside.stages.items c.in_ok-stage.stage
 
-full : (c : goal.After-self-1) → length c.in_ok-stage.stage.items ≡ c.next_width-count.result
-full c = search rules
+full : (c : goal.After-self-1) → length c.in_ok-stage.stage.cells ≡ c.next_width-count.result
+full c = ap (λ (xs : List (Option Entry)). length xs) c.in_ok-stage.ensures ∙ length-replicate {A = Option Entry} c.next_width-count.result None
 
 pub invariant_of-self-2 : goal.invariant_of-self-2
 invariant_of-self-2 c =
     let vs = c.self.inside.stages.items in
     let v = c.in_ok-stage.stage in
-    let whole = length-append (flat vs) v.items in
+    let whole = length-append (flat vs) v.cells in
     let both : length (flat c.push_reserved.new.self.items) ≡ c.self.inside.total + c.next_width-count.result = ap length (slots_new c) ∙ whole ∙ omega (arith, full c, c.self.invariant.counted) in
     record {
       widths = subst (λ l. HaveWidths 0 l) (sym (items_new c)) (widths_push 0 (length vs) vs v (omega arith) c.self.invariant.widths (full c ∙ wide c));
@@ -36,8 +38,7 @@ invariant_of-self-2 c =
 pub returns-clause-ok : goal.returns-clause-ok
 returns-clause-ok c =
     let seen : length (flat c.self.inside.stages.items) ≡ length c.args.self.now = ap length c.self.view_is in
-    record {
-      added = c.in_ok-stage.stage.items;
-      slots = slots_new c ∙ ap (λ (l : List Entry). l ++ c.in_ok-stage.stage.items) c.self.view_is;
-      count = full c ∙ c.next_width-count.ensures ∙ ap width_after (c.self.invariant.counted ∙ seen);
-    }
+    let count : c.next_width-count.result ≡ width_after (length c.args.self.now) = c.next_width-count.ensures ∙ ap width_after (c.self.invariant.counted ∙ seen) in
+    slots_new c
+    ∙ (λ i. c.self.view_is i ++ c.in_ok-stage.ensures i)
+    ∙ ap (λ n. c.args.self.now ++ replicate n None) count
