@@ -1,5 +1,5 @@
 -- What an allocation answered, as it is stored.
-use Rattle.entry_arena.proofs.Steps.{List, [], ◌∷◌, ◌≡◌, ◌++◌, Val, Ptr, RawPtr, RattleType, ap, ◌∙◌, only, refl, Ura, Logic, sem, ent, id⊢, Fml, fsep, feq, fex, ftrue, ‵, ◌$◌, ◌∵◌, !, qed, done, move, use0, use1, fjoin, fpack, feq_i}
+use Rattle.entry_arena.proofs.Steps.{List, [], ◌∷◌, ◌≡◌, ◌++◌, Val, Ptr, RawPtr, RattleType, ap, ◌∙◌, only, refl, Ura, Logic, sem, ent, id⊢, fsep, feq, fex, ftrue, ‵, ◌$◌, ◌∵◌, !, qed, done, move, use0, use1, fjoin, fpack, feq_i}
 use Rattle.std.specs.Prelude.{Result, Ok, Err}
 use Rattle.std.specs.declared.alloc.AllocError.{AllocError}
 use Rattle.std.specs.contracts.alloc.AllocError as error

@@ -1,5 +1,5 @@
 -- The block of a stage: its room is the room of empty cells, and what cells own is at last such room.
-use Rattle.entry_arena.proofs.Steps.{◌≡◌, ℕ, zero, suc, ◌+◌, ◌*◌, ◌<◌, List, [], ◌∷◌, Option, None, Some, refl, sym, id⊢, ent, Fml, ftrue, fsep, froom, Logic, sem, Ura, ‵, ◌$◌, ◌∵◌, !, qed, done, move, drop, use0, use1, use2, fsplit, fjoin, rewrite, Ptr, block_ptr, length, arith, lone, ap, ◌^◌}
+use Rattle.entry_arena.proofs.Steps.{◌≡◌, ℕ, zero, suc, ◌+◌, ◌<◌, List, [], ◌∷◌, Option, None, refl, sym, id⊢, ent, ftrue, fsep, froom, Logic, sem, Ura, ‵, ◌$◌, ◌∵◌, !, qed, done, move, drop, use0, use1, use2, fsplit, fjoin, rewrite, block_ptr, length, arith, ap, ◌^◌}
 use Rattle.entry_arena.specs.Cells.{cell_owns, cells_own}
 use Rattle.entry_arena.proofs.Cell.{cell_room}
 use Rattle.rec_format.specs.contracts.entry.Entry.{the_row as E}

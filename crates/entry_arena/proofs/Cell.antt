@@ -1,5 +1,5 @@
 -- One cell: an entry that lies there is its machine value with what the entry owns.
-use Rattle.entry_arena.proofs.Steps.{◌≡◌, ℕ, List, [], ◌∷◌, Option, None, Some, refl, full_share, id⊢, ent, Fml, fsep, fex, fat, froom, Val, Logic, sem, Ura, ‵, ◌$◌, ◌∵◌, !, qed, done, move, drop, use1, fsplit, fjoin, fpick, fpack, rewrite, frame, shows, cell_at, lone, Ptr, block_ptr, null_ptr, never, lies_at, room_at, peeks}
+use Rattle.entry_arena.proofs.Steps.{◌≡◌, ℕ, List, [], ◌∷◌, Option, None, Some, refl, full_share, id⊢, ent, Fml, fsep, fex, fat, froom, Val, Logic, sem, Ura, ‵, ◌$◌, ◌∵◌, !, qed, done, move, drop, use1, fsplit, fjoin, fpick, fpack, rewrite, shows, cell_at, block_ptr, null_ptr, never, lies_at, peeks}
 use Rattle.entry_arena.specs.Cells.{cell_owns}
 use Rattle.rec_format.specs.contracts.entry.Entry.{the_row as E, the_type}
 use Rattle.rec_format.proofs.entry.Entry.TheLaws.{mir, the_laws}

@@ -1,14 +1,13 @@
 -- The allocator, lent for a call.
-use Rattle.entry_arena.proofs.Steps.{ℕ, List, [], ◌∷◌, refl, id⊢, ent, Val, Logic, sem, Ura, ‵, raw, ◌⊛◌, later, ◌$◌, ◌∵◌, !, qed, done, move, drop, use1, use2, split, fsplit, owned, full_share, fat, flft, cell_at, part_at, Share}
+use Rattle.entry_arena.proofs.Steps.{ℕ, List, [], ◌∷◌, refl, ent, Val, Logic, sem, Ura, ‵, ◌⊛◌, later, ◌$◌, ◌∵◌, !, qed, done, move, drop, use1, use2, split, owned, full_share, fat, cell_at, part_at}
 use Rattle.std.specs.Borrow.{Bor}
 use Rattle.std.specs.contracts.alloc.Global as global
 use Rattle.std.proofs.alloc.Global.TheLaws as global_laws
 use Rattle.std.specs.declared.alloc.Global.{Global}
-use base.Fml.{Fml, Lft, flent}
-use base.Logic.{SProp, via}
+use base.Fml.{Lft, flent}
 use denote.Copied.{told_in, told_out}
 use denote.Laws.{Is, Tells}
-use denote.Lend.{LentShr, lends_free}
+use denote.Lend.{lends_free}
 use denote.RattleType.{RattleType}
 use denote.Ref.{ShrRef}
 use denote.Struct.Laws as laws

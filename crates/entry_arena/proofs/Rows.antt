@@ -1,5 +1,5 @@
 -- Cells side by side: one of them is taken out, and given back.
-use Rattle.entry_arena.proofs.Steps.{◌≡◌, ℕ, zero, suc, ◌+◌, ◌<◌, List, [], ◌∷◌, Option, None, Some, refl, id⊢, ent, sep, Fml, ftrue, fsep, Logic, sem, Ura, ‵, ◌$◌, ◌∵◌, !, qed, done, move, drop, use1, use2, fsplit, fjoin, rewrite, Ptr, RattleType, length, get_or, set, ap, arith}
+use Rattle.entry_arena.proofs.Steps.{◌≡◌, ℕ, zero, suc, ◌+◌, ◌<◌, List, [], ◌∷◌, Option, None, refl, ent, sep, Fml, ftrue, fsep, Logic, sem, Ura, ‵, ◌$◌, ◌∵◌, !, qed, done, move, drop, use1, use2, fsplit, fjoin, rewrite, Ptr, RattleType, length, get_or, set, arith}
 use Rattle.entry_arena.specs.Cells.{cell_owns, cells_own, cell_lends, cells_lend}
 use base.Fml.{Lft}
 use Rattle.std.specs.Ptr.{ptr_add}

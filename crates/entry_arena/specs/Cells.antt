@@ -1,5 +1,5 @@
 -- What the memory of a stage holds, cell by cell.
-use Rattle.std.specs.Prelude.{◌≡◌, ℕ, zero, suc, ◌+◌, List, [], ◌∷◌, length, Option, None, Some}
+use Rattle.std.specs.Prelude.{ℕ, suc, List, [], ◌∷◌, length, Option, None, Some}
 use Rattle.std.specs.Ptr.{ptr_add}
 use Rattle.std.specs.Allocator.{array_of}
 use base.Fml.{Fml, Lft, ftrue, fsep, feq, flt}
@@ -30,9 +30,11 @@ abbrev pub cell_lends : (R : RattleType) → Ptr → Option R.Denot → Lft → 
 cell_lends R p None = nothing
 cell_lends R p (Some e) = lent_at R p e
 
+-- what a reader has of cells side by side
 abbrev pub cells_lend : (R : RattleType) → Ptr → ℕ → List (Option R.Denot) → Lft → Fml
 cells_lend R p first [] = nothing
 cells_lend R p first (x ∷ xs) = beside (cell_lends R (ptr_add R first p) x) (cells_lend R p (suc first) xs)
 
+-- what a reader has of a stage
 abbrev pub stage_lends : (R : RattleType) → Ptr → List (Option R.Denot) → Lft → Fml
 stage_lends R p xs = beside (cells_lend R p 0 xs) (said (flt (length xs) 4097))

@@ -7,7 +7,7 @@ use rec_format::Entry;
 use std::alloc::{Allocator, Global};
 use std::marker::Model;
 
-/// Cells side by side in memory that never moves.
+/// Cells side by side in one block of memory, which is taken at once and never moves. A cell's memory is written first by a `put`.
 pub struct Cells {
     at: *mut Entry,
     count: usize,
@@ -27,6 +27,7 @@ impl Model for Cells {
 }
 
 impl Cells {
+    /// Empty cells, or want of memory.
     pub fn new(count: usize, alloc: Global) -> Result<Cells, NoMemory>
         requires few { count ≤ 4096 }
         requires some { 1 ≤ count }
@@ -42,6 +43,7 @@ impl Cells {
         }
     }
 
+    /// Puts an entry into a cell, whether it has one or not.
     pub fn put(&mut self, place: usize, entry: Entry)
         requires { place < length self.old.cells }
         ensures { self.new ≡ record self.old { cells = slice_set self.old.cells place (Some entry) } }
@@ -49,6 +51,7 @@ impl Cells {
         unsafe { self.at.add(place).write(entry) }
     }
 
+    /// The entry of a cell that has one.
     pub fn get(&self, place: usize) -> &Entry
         requires { IsSome (slice_index_or self.now.cells place None) }
         ensures { slice_index_or self.now.cells place None ≡ Some result.now }
@@ -56,6 +59,7 @@ impl Cells {
         unsafe { &*self.at.add(place) }
     }
 
+    /// Takes the entry out of a cell that has one.
     pub fn take(&mut self, place: usize) -> Entry
         requires { IsSome (slice_index_or self.old.cells place None) }
         ensures entry { slice_index_or self.old.cells place None ≡ Some result }
@@ -68,10 +72,15 @@ impl Cells {
 impl Drop for Cells {
     fn drop(self) {
         let Self { at, count, alloc } = self;
-        unsafe { alloc.deallocate(at as *mut u8, count * size_of::<Entry>(), align_of::<Entry>()) };
+        unsafe {
+            alloc.deallocate(
+                at as *mut u8,
+                count * size_of::<Entry>(),
+                align_of::<Entry>(),
+            )
+        };
     }
 }
 
+// Nothing of the cells says which thread has them.
 unsafe impl Send for Cells {}
-
-unsafe impl Sync for Cells {}

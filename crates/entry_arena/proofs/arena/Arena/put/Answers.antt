@@ -1,11 +1,11 @@
-use Rattle.std.proofs.Common.{rules, ◌≡◌, ◌-◌, ◌<◌, sym, ap, subst, length, ◌++◌, ◌∷◌, [], ◌∙◌, Option, Some, List, set, ℕ, arith}
+use Rattle.std.proofs.Common.{rules, ◌≡◌, ◌-◌, sym, ap, subst, length, ◌++◌, ◌∷◌, [], ◌∙◌, Option, Some, List, set, ℕ, arith}
 use Rattle.std.specs.Prelude.{vec_len, vec_capacity, option_to_list}
 use Rattle.rec_format.specs.declared.entry.Entry.{Entry}
 use Rattle.entry_arena.specs.State.{ArenaState}
 use Rattle.entry_arena.specs.Free.{IsFree}
 use Rattle.std.proofs.lemmas.List.{length_push}
 use Rattle.entry_arena.proofs.Grown.{state}
-use Rattle.entry_arena.proofs.Freed.{slot_within, slot_vacant, put_kept}
+use Rattle.entry_arena.proofs.Freed.{slot_within, put_kept}
 use Rattle.entry_arena.proofs.arena.Arena.put.Goals.{After-unwrap-slot}
 use Rattle.entry_arena.proofs.arena.Arena.put.Goals as goal
 

@@ -1,4 +1,4 @@
-use Rattle.std.proofs.Common.{◌≡◌, ◌+◌, ◌<◌, true, length, None, List, Option, ℕ, get_or, set, sym, ap, subst, ◌++◌, ◌∷◌, [], ◌∙◌, arith}
+use Rattle.std.proofs.Common.{◌≡◌, ◌+◌, true, length, None, List, Option, ℕ, get_or, set, sym, ap, subst, ◌++◌, ◌∷◌, [], ◌∙◌, arith}
 use Rattle.std.specs.Prelude.{is_some, vec_len, vec_capacity}
 use Rattle.rec_format.specs.declared.entry.Entry.{Entry}
 use Rattle.entry_arena.specs.State.{ArenaState}

@@ -1,4 +1,4 @@
-use Rattle.entry_arena.proofs.Steps.{◌≡◌, ℕ, ◌≤◌, ◌<◌, ◌+◌, ◌*◌, ◌^◌, List, [], ◌∷◌, Option, None, Some, refl, sym, ap, ◌∙◌, lit<, w8, w64, MutBor, arith, length, get_or, set, zero, suc, proved, full_share, id⊢, ent, sep, never, Fml, ftrue, fsep, feq, flt, fex, fat, froom, flft, fres, Share, ty_int, named, Ty, Val, vunit, vint, fact, tables, Logic, sem, Ura, ‵, raw, ◌⊛◌, some, later, prop, at_ret, Sq, ◌$◌, ◌∵◌, !, qed, done, move, keep, drop, use0, use1, use2, use3, split, join, fsplit, fsplit3, fjoin, fpick, fpack, feq_i, feq_l, flt_i, flt_l, pick, await, rewrite, regoal, suffices, frame, group, enter, init, of_opd, lit, unit_lit, bin, addr, load, look, store, store_raw, stop, fld, hop, no_more, and_then, assigns, assigns_last, first, blocks, branches, skips, exec, returns, returns_within, well_typed, alloc_all, pass_all, free_all, look_at, get, through, sets, sets_last, lands_as, env, whole, sub, look_in, u8, bool, unit, usize, yes, shows, cell_at, part_at, lone, uint_in, uint_out, uint_Makes, uint_vals, uint_Tells, bool_vals, bool_Tells, RattleType, Ptr, RawPtr, block_ptr, null_ptr, lies_at, room_at, in_a_block, rawptr_vals, rawptr_Tells, rawptr_Lawful, MutRef, mut_vals, mut_Tells, plain, nothing, owned, opens, closes, tied, ties, heard, peeks, only, calls_at, lasts, on_entry, triple_of, Stays, walk_of, says, stay_dropped, Goes-dropped, stay_ref, Goes-ref, ends_at, framed}
+use Rattle.entry_arena.proofs.Steps.{◌<◌, ◌*◌, ◌^◌, List, [], ◌∷◌, refl, sym, ap, lit<, w64, arith, length, proved, full_share, id⊢, ftrue, fat, froom, flft, Val, vunit, fact, tables, ‵, raw, ◌⊛◌, some, later, prop, at_ret, ◌$◌, ◌∵◌, !, qed, done, move, keep, drop, use0, use1, use2, split, join, fsplit, feq_i, feq_l, flt_l, pick, await, rewrite, regoal, suffices, frame, group, enter, of_opd, lit, unit_lit, bin, addr, stop, fld, no_more, and_then, first, blocks, exec, returns, alloc_all, pass_all, free_all, look_at, get, sets, env, whole, sub, unit, usize, yes, part_at, uint_Makes, uint_vals, Ptr, RawPtr, block_ptr, in_a_block, rawptr_vals, plain, nothing, owned, only, triple_of, Stays, walk_of, stay_dropped, Goes-dropped, ends_at, framed}
 use Rattle.entry_arena.specs.contracts.cells.Cells.drop as f
 use Rattle.entry_arena.proofs.cells.Cells.drop.Statement.{statement}
 use Rattle.entry_arena.proofs.cells.Cells.drop.Code as code
@@ -12,12 +12,10 @@ use Rattle.std.specs.Allocator.{array_of}
 use Rattle.std.specs.contracts.impls.GlobalAllocator.TheImpl.{ghosts}
 use Rattle.std.specs.contracts.impls.GlobalAllocator.deallocate as g
 use Rattle.std.proofs.impls.GlobalAllocator.deallocate.Met.{met}
-use Rattle.std.specs.contracts.alloc.Global as global
 use Rattle.std.proofs.alloc.Global.TheLaws as global_laws
 use Rattle.std.proofs.VecSteps.Shapes.{after}
 use denote.Laws.{Typed}
 use denote.RawPtr.{in_block}
-use denote.Struct.Laws as plain_laws
 use denote.Struct.OwningLaws.{lawful}
 use mir.Syntax.{ty_array, ty_unit, erased}
 use prog.Wp.{WpFn}

@@ -1,9 +1,9 @@
-use Rattle.entry_arena.proofs.Steps.{◌≡◌, ℕ, ◌≤◌, ◌<◌, ◌+◌, ◌*◌, ◌^◌, List, [], ◌∷◌, ◌++◌, Option, None, Some, refl, sym, ap, ◌∙◌, lit<, w8, w64, MutBor, arith, length, get_or, set, zero, suc, proved, full_share, id⊢, ent, sep, never, Fml, ftrue, fsep, feq, flt, fex, fat, froom, flft, fres, Share, ty_int, named, Ty, Val, vunit, vint, fact, tables, Logic, sem, Ura, ‵, raw, ◌⊛◌, some, later, prop, at_ret, Sq, ◌$◌, ◌∵◌, !, qed, done, move, keep, drop, use0, use1, use2, use3, split, join, fsplit, fsplit3, fjoin, fpick, fpack, feq_i, feq_l, flt_i, flt_l, pick, await, rewrite, regoal, suffices, frame, group, enter, init, of_opd, lit, unit_lit, bin, addr, load, look, store, store_raw, stop, fld, hop, no_more, and_then, assigns, assigns_last, first, blocks, branches, skips, exec, returns, returns_within, well_typed, alloc_all, pass_all, free_all, look_at, get, through, sets, sets_last, lands_as, env, whole, sub, look_in, u8, bool, unit, usize, yes, shows, cell_at, part_at, lone, uint_in, uint_out, uint_Makes, uint_vals, uint_Tells, bool_vals, bool_Tells, RattleType, Ptr, RawPtr, block_ptr, null_ptr, lies_at, room_at, in_a_block, rawptr_vals, rawptr_Tells, rawptr_Lawful, MutRef, mut_vals, mut_Tells, plain, nothing, owned, opens, closes, tied, ties, heard, peeks, only, calls_at, lasts, on_entry, triple_of, Stays, walk_of, says, stay_dropped, Goes-dropped, stay_ref, Goes-ref, ends_at, framed}
+use Rattle.entry_arena.proofs.Steps.{ℕ, ◌≤◌, ◌<◌, ◌*◌, ◌^◌, List, [], ◌∷◌, Option, None, refl, ap, ◌∙◌, lit<, w64, arith, length, proved, full_share, id⊢, ftrue, fsep, fat, froom, flft, fact, tables, ‵, raw, ◌⊛◌, some, later, at_ret, ◌$◌, ◌∵◌, !, qed, done, move, drop, use0, use1, use2, split, join, fsplit, fjoin, feq_i, flt_i, pick, await, rewrite, suffices, enter, of_opd, lit, bin, addr, stop, fld, no_more, and_then, first, exec, returns, alloc_all, pass_all, free_all, look_at, get, sets, sets_last, lands_as, env, whole, usize, yes, shows, part_at, uint_Makes, uint_vals, uint_Tells, Ptr, RawPtr, block_ptr, in_a_block, plain, nothing, owned, heard, peeks, calls_at, lasts, triple_of, Stays, walk_of, says, stay_dropped, Goes-dropped, ends_at, framed}
 use Rattle.entry_arena.specs.contracts.cells.Cells.new as f
 use Rattle.entry_arena.proofs.cells.Cells.new.Statement.{statement}
 use Rattle.entry_arena.proofs.cells.Cells.new.Code as code
 use Rattle.entry_arena.specs.contracts.cells.Cells.{the_row as R, the_type}
-use Rattle.entry_arena.proofs.cells.Cells.TheLaws.{lowers, the_laws}
+use Rattle.entry_arena.proofs.cells.Cells.TheLaws.{lowers}
 use Rattle.std.specs.Prelude.{Result, Ok, Err}
 use Rattle.std.specs.declared.alloc.AllocError.{AllocError}
 use Rattle.std.specs.contracts.result.Result as result
@@ -16,18 +16,12 @@ use Rattle.std.specs.Allocator.{array_of}
 use Rattle.std.specs.contracts.impls.GlobalAllocator.TheImpl.{ghosts}
 use Rattle.std.specs.contracts.impls.GlobalAllocator.allocate as g
 use Rattle.std.proofs.impls.GlobalAllocator.allocate.Met.{met}
-use Rattle.std.specs.contracts.alloc.Global as global
 use Rattle.std.proofs.alloc.Global.TheLaws as global_laws
 use Rattle.std.proofs.VecSteps.Shapes.{after}
-use denote.Laws.{Typed}
-use denote.RawPtr.{in_block}
-use denote.Struct.Laws as plain_laws
-use denote.Struct.OwningLaws.{lawful}
-use mir.Syntax.{ty_array, ty_unit, erased}
-use prog.Wp.{WpFn}
+use mir.Syntax.{ty_array, erased}
 use types.ByLocal.{get_in, take_at, give_at}
 use types.Run.{from}
-use Rattle.entry_arena.proofs.Allocated.{answer, Outcome, outcome, ok_owns, err_owns}
+use Rattle.entry_arena.proofs.Allocated.{answer, outcome, ok_owns, err_owns}
 use Rattle.entry_arena.proofs.Allocated.Outcome.{block, refused}
 use Rattle.std.specs.Prelude.{replicate}
 use denote.RawPtr.{ptr_val, room_for}
@@ -44,12 +38,9 @@ use Rattle.entry_arena.proofs.Handle.{handle, handle_ref, handle_words, handle_t
 use Rattle.std.specs.Allocator.{HasLayout}
 use base.Fml.{flent}
 use contract.Fact.{fact_i}
-use denote.RawPtr.{rawptr_Makes}
 use denote.Ref.{ShrRef}
-use lib.Dec.{T}
-use mir.Val.{vptr, has_ty, WT}
+use mir.Val.{vptr}
 use types.Tokens.{lft_new, lft_end, lent_back}
-use Rattle.std.proofs.Common.{subst}
 
 abbrev no_entry : Option E.Denot
 no_entry = None
@@ -101,35 +92,42 @@ new_spec 𝓤 𝓛 𝓜 𝓡 wired =
           let xs : List (Option E.Denot) = replicate count None in let made : R.Denot = record { at = block_ptr b o; count = count; alloc = alloc; cells = xs } in
           let w = lowers.lowered made in
           let all = length-replicate count (no_entry) in
-          first ! $ switches ! (get_tag ! (vrt ! refl (fld ! refl (stop !))) (whole !)) ((λ at_first.
-          sets ! (of_opd ! (get_in ! (vrt ! refl (fld ! refl (stop !))) (in_variant ! 0 0 refl refl (whole !)))) refl (tt, tt) $
-          sets ! (of_opd ! (get ! refl)) refl (tt, tt) $
-          sets ! (of_opd ! (get ! refl)) refl (tt, ((tt, tt), tt)) $
-          sets ! (agg ! (and_then ! (get ! refl) (and_then ! (get ! refl) (and_then ! (get ! refl) (no_more !))))) refl (tt, (tt, (record { fits = wide }, (((tt, tt), tt), tt)))) $
-          sets_last ! (agg ! (and_then ! (lit ! tt) (and_then ! (get ! refl) (no_more !)))) refl (tt, (record { fits = lit< tt }, ((tt, (record { fits = wide }, (((tt, tt), tt), tt))), tt))) $
-          exec ! 𝓣.C 𝓣.Λ (env code.Mir.locals l) (after 5 (code.function).body) (at_ret _ (W.post y)) $
-          sets ! (of_opd ! (get ! refl)) refl (tt, (record { fits = lit< tt }, ((tt, (record { fits = wide }, (((tt, tt), tt), tt))), tt))) $
-          returns ! (look_at ! 0 refl) $ free_all ! refl $
-          flt_i ! (length xs) 4097 (omega arith) $ move ! (1 ∷ 0 ∷ []) $ fjoin ! $ move ! (1 ∷ []) $
-          rewrite ! 0 (λ p. ‵ (ghosts.dealloc_token alloc (array_of E count) p)) p_is refl $
-          feq_i ! ℕ (length xs) count all $ fjoin ! $ move ! (1 ∷ []) $ fjoin ! $
-          use0 𝓛 (‵ (Fields.own_val (to the_type made) (w ∷ []))) (fields_own 𝓛 made wide) $ fjoin ! $
-          use1 𝓛 (‵ ((result.the_row R error.the_row).own_val (Ok made) (live 0 (vcons w vnil) ∷ []))) (ok_owns 𝓛 R made w) $
-          suffices ! _ (ends_at 𝓛 f.ended stayed c y (live 0 (vcons w vnil)) (Ok made) (tt, (tt, tt)) (tt, (tt, tt))) $ says ! refl $
-          nothing ! $ nothing ! $ join ! $ nothing ! $ join ! $ nothing ! $ done !),
-          ((λ at_second. absurd (omega arith)), λ no. absurd (no.0.1 refl)))))
+          first ! $ switches ! (get_tag ! (vrt ! refl (fld ! refl (stop !))) (whole !)) (
+            (λ at_first.
+                sets ! (of_opd ! (get_in ! (vrt ! refl (fld ! refl (stop !))) (in_variant ! 0 0 refl refl (whole !)))) refl (tt, tt) $
+                sets ! (of_opd ! (get ! refl)) refl (tt, tt) $
+                sets ! (of_opd ! (get ! refl)) refl (tt, ((tt, tt), tt)) $
+                sets ! (agg ! (and_then ! (get ! refl) (and_then ! (get ! refl) (and_then ! (get ! refl) (no_more !))))) refl (tt, (tt, (record { fits = wide }, (((tt, tt), tt), tt)))) $
+                sets_last ! (agg ! (and_then ! (lit ! tt) (and_then ! (get ! refl) (no_more !)))) refl (tt, (record { fits = lit< tt }, ((tt, (record { fits = wide }, (((tt, tt), tt), tt))), tt))) $
+                exec ! 𝓣.C 𝓣.Λ (env code.Mir.locals l) (after 5 (code.function).body) (at_ret _ (W.post y)) $
+                sets ! (of_opd ! (get ! refl)) refl (tt, (record { fits = lit< tt }, ((tt, (record { fits = wide }, (((tt, tt), tt), tt))), tt))) $
+                returns ! (look_at ! 0 refl) $ free_all ! refl $
+                flt_i ! (length xs) 4097 (omega arith) $ move ! (1 ∷ 0 ∷ []) $ fjoin ! $ move ! (1 ∷ []) $
+                rewrite ! 0 (λ p. ‵ (ghosts.dealloc_token alloc (array_of E count) p)) p_is refl $
+                feq_i ! ℕ (length xs) count all $ fjoin ! $ move ! (1 ∷ []) $ fjoin ! $
+                use0 𝓛 (‵ (Fields.own_val (to the_type made) (w ∷ []))) (fields_own 𝓛 made wide) $ fjoin ! $
+                use1 𝓛 (‵ ((result.the_row R error.the_row).own_val (Ok made) (live 0 (vcons w vnil) ∷ []))) (ok_owns 𝓛 R made w) $
+                suffices ! _ (ends_at 𝓛 f.ended stayed c y (live 0 (vcons w vnil)) (Ok made) (tt, (tt, tt)) (tt, (tt, tt))) $ says ! refl $
+                nothing ! $ nothing ! $ join ! $ nothing ! $ join ! $ nothing ! $ done !),
+            ((λ at_second. absurd (omega arith)), λ no. absurd (no.0.1 refl)),
+          )))
       | refused e r_is v_is ↦
           rewrite ! 0 (λ r. ‵ (answer.own_val r (v ∷ []))) r_is refl $
           use1 𝓛 (‵ ((result.the_row R error.the_row).own_val (Err e) (v ∷ []))) (err_owns 𝓛 R e v) $
           rewrite ! 0 (λ v. ‵ ((result.the_row R error.the_row).own_val (Err e) (v ∷ []))) v_is refl $ move ! (1 ∷ []) $ drop ! $
           lands_as ! v_is refl (tt, (record { fits = lit< tt }, (tt, tt))) $
-          first ! $ switches ! (get_tag ! (vrt ! refl (fld ! refl (stop !))) (whole !)) ((λ at_first. absurd (omega arith)), ((λ at_second.
-          sets ! (of_opd ! (get_in ! (vrt ! refl (fld ! refl (stop !))) (in_variant ! 1 0 refl refl (whole !)))) refl (tt, tt) $
-          sets_last ! (agg ! (and_then ! (lit ! tt) (and_then ! (get ! refl) (no_more !)))) refl (tt, (record { fits = lit< tt }, (tt, tt))) $
-          exec ! 𝓣.C 𝓣.Λ (env code.Mir.locals l) (after 5 (code.function).body) (at_ret _ (W.post y)) $
-          sets ! (of_opd ! (get ! refl)) refl (tt, (record { fits = lit< tt }, (tt, tt))) $
-          returns ! (look_at ! 0 refl) $ free_all ! refl $
-          suffices ! _ (ends_at 𝓛 f.ended stayed c y (live 1 (vcons (vstruct vnil) vnil)) (Err e) (tt, (tt, tt)) (tt, (tt, tt))) $ says ! tt $
-          nothing ! $ nothing ! $ join ! $ nothing ! $ join ! $ nothing ! $ done !),
-          λ no. absurd (no.1 refl)))
+          first ! $ switches ! (get_tag ! (vrt ! refl (fld ! refl (stop !))) (whole !)) (
+            (λ at_first. absurd (omega arith)),
+            (
+              (λ at_second.
+                  sets ! (of_opd ! (get_in ! (vrt ! refl (fld ! refl (stop !))) (in_variant ! 1 0 refl refl (whole !)))) refl (tt, tt) $
+                  sets_last ! (agg ! (and_then ! (lit ! tt) (and_then ! (get ! refl) (no_more !)))) refl (tt, (record { fits = lit< tt }, (tt, tt))) $
+                  exec ! 𝓣.C 𝓣.Λ (env code.Mir.locals l) (after 5 (code.function).body) (at_ret _ (W.post y)) $
+                  sets ! (of_opd ! (get ! refl)) refl (tt, (record { fits = lit< tt }, (tt, tt))) $
+                  returns ! (look_at ! 0 refl) $ free_all ! refl $
+                  suffices ! _ (ends_at 𝓛 f.ended stayed c y (live 1 (vcons (vstruct vnil) vnil)) (Err e) (tt, (tt, tt)) (tt, (tt, tt))) $ says ! tt $
+                  nothing ! $ nothing ! $ join ! $ nothing ! $ join ! $ nothing ! $ done !),
+              λ no. absurd (no.1 refl),
+            ),
+          )
     ]))))))))

@@ -1,4 +1,4 @@
-use Rattle.entry_arena.proofs.Steps.{◌≡◌, ℕ, ◌≤◌, ◌<◌, ◌+◌, ◌*◌, ◌^◌, List, [], ◌∷◌, Option, None, Some, refl, sym, ap, ◌∙◌, lit<, w8, w64, MutBor, arith, length, get_or, set, zero, suc, proved, full_share, id⊢, ent, sep, never, Fml, ftrue, fsep, feq, flt, fex, fat, froom, flft, fres, Share, ty_int, named, Ty, Val, vunit, vint, fact, tables, Logic, sem, Ura, ‵, raw, ◌⊛◌, some, later, prop, at_ret, Sq, ◌$◌, ◌∵◌, !, qed, done, move, keep, drop, use1, use2, use3, split, join, fsplit, fsplit3, fjoin, fpick, fpack, feq_i, feq_l, flt_i, flt_l, pick, await, rewrite, regoal, suffices, frame, group, enter, init, of_opd, lit, unit_lit, bin, addr, load, look, store, store_raw, stop, fld, hop, no_more, and_then, assigns, assigns_last, first, blocks, branches, skips, exec, returns, returns_within, well_typed, alloc_all, pass_all, free_all, look_at, get, through, sets, sets_last, lands_as, env, whole, sub, look_in, u8, bool, unit, usize, yes, shows, cell_at, part_at, lone, uint_in, uint_out, uint_Makes, uint_vals, uint_Tells, bool_vals, bool_Tells, RattleType, Ptr, RawPtr, block_ptr, null_ptr, lies_at, room_at, in_a_block, rawptr_vals, rawptr_Tells, rawptr_Lawful, MutRef, mut_vals, mut_Tells, plain, nothing, owned, opens, closes, tied, ties, heard, peeks, only, calls_at, lasts, on_entry, triple_of, Stays, walk_of, says, stay_dropped, Goes-dropped, stay_ref, Goes-ref, ends_at, framed}
+use Rattle.entry_arena.proofs.Steps.{◌≡◌, ℕ, ◌<◌, ◌+◌, ◌*◌, ◌^◌, List, [], ◌∷◌, None, Some, refl, sym, ap, ◌∙◌, w64, arith, length, get_or, set, proved, full_share, ftrue, fsep, flft, named, Val, fact, tables, ‵, raw, ◌⊛◌, at_ret, ◌$◌, ◌∵◌, !, qed, done, move, keep, use1, use2, split, join, fsplit, fsplit3, fjoin, feq_i, feq_l, flt_i, flt_l, rewrite, suffices, frame, group, enter, of_opd, lit, bin, load, look, stop, fld, first, blocks, exec, returns, alloc_all, pass_all, free_all, look_at, get, through, sets, sets_last, env, whole, sub, look_in, usize, yes, shows, cell_at, uint_vals, uint_Tells, Ptr, block_ptr, in_a_block, MutRef, mut_vals, mut_Tells, plain, nothing, opens, closes, heard, peeks, Stays, walk_of, says, stay_dropped, Goes-dropped, stay_ref, Goes-ref, ends_at}
 use Rattle.entry_arena.specs.contracts.cells.Cells.take as f
 use Rattle.entry_arena.proofs.cells.Cells.take.Statement.{statement}
 use Rattle.entry_arena.proofs.cells.Cells.take.Code as code
@@ -10,13 +10,12 @@ use Rattle.std.proofs.VecSteps.Shapes.{after}
 use types.Kit.{use0}
 use contract.Fact.{fact_i}
 use denote.Struct.Laws.{val, vals, lawful}
-use Rattle.entry_arena.specs.Cells.{cell_owns, cells_own, stage_owns}
+use Rattle.entry_arena.specs.Cells.{cell_owns, cells_own}
 use Rattle.entry_arena.proofs.Rows.{others, cell_out, cell_in}
 use Rattle.entry_arena.proofs.Cell.{nowhere, entry_out, entry_there, filled, filled_within}
 use Rattle.std.specs.Ptr.{ptr_add, array_size}
-use Rattle.std.proofs.lemmas.List.{length-set, get_or_past}
-use Rattle.std.specs.Prelude.{is_some, IsSome}
-use Rattle.std.proofs.Common.{false, lt_of_not-le}
+use Rattle.std.proofs.lemmas.List.{length-set}
+use Rattle.std.specs.Prelude.{IsSome}
 
 abbrev stayed : Stays f.ended.signature.params f.ended.kept
 stayed = (stay_ref (0 ∷ []) tt (plain (λ _. R)), (stay_dropped _ yes, tt))

@@ -1,4 +1,4 @@
-use Rattle.std.proofs.Common.{◌≡◌, ◌<◌, List, Option, Some, length, set, sym, ap, subst, ◌∙◌, arith}
+use Rattle.std.proofs.Common.{◌<◌, List, Option, Some, length, set, sym, ap, subst, ◌∙◌, arith}
 use Rattle.rec_format.specs.declared.entry.Entry.{Entry}
 use Rattle.entry_arena.specs.declared.cells.Cells.{Cells}
 use Rattle.entry_arena.specs.Stages.{flat}
