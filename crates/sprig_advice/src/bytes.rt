@@ -10,8 +10,8 @@ const SPRIG: u64 = size_of::<Sprig>() as u64;
 /// A slot: its entry, and 4 bytes each for its place among the free ones, for its two links and for the size of what hangs there.
 const SLOT: u64 = size_of::<Entry>() as u64 + 16;
 
-/// What leads to a stage of slots.
-const STAGE: u64 = size_of::<Vec<Entry>>() as u64;
+/// What leads to a stage of slots: where it lies, and how many there are.
+const STAGE: u64 = 2 * size_of::<usize>() as u64;
 
 /// How many slots there are where there is room for so many entries: a stage has four more than all before it, and 4,096 at most.
 fn slots_for(entries: u64) -> u64
