@@ -84,3 +84,5 @@ impl Drop for Cells {
 
 // Nothing of the cells says which thread has them.
 unsafe impl Send for Cells {}
+
+unsafe impl Sync for Cells {}
