@@ -9,6 +9,7 @@ mod growth;
 mod links;
 mod sizes;
 mod sprig;
+mod tree;
 mod turns;
 mod walks;
 

@@ -1,43 +1,33 @@
-// A sprig: a search tree whose entries are in an arena.
+// A sprig: a search tree in a box, which is made when room for its first entry is asked for.
 ghost use Rattle.std.specs.Prelude.{◌≡◌, ◌+◌, ◌-◌, ◌≤◌, [], length, max, None, IsSome, IsOk, OnOk, OnErr, is_some, if◌then◌else◌};
 ghost use Rattle.std.specs.Option.{option_copied};
 ghost use Rattle.sprig_tree.specs.Entries.{IsInDigestOrder, entry_of, entry_after, with_entry, with_replaced, without_digest};
 ghost use Rattle.sprig_tree.specs.Tallies.{tally_of};
 
-use crate::growth::grow;
-use crate::links::{Link, NONE};
-use crate::walks::{first, first_after, look_up, steps_to};
-use crate::{NoMemory, Tally, edits};
-use entry_arena::Arena;
+use crate::tree::Tree;
+use crate::{NoMemory, Tally};
 use rec_format::{Digest, Entry};
 use std::alloc::Global;
 use std::marker::Model;
 
 /// The entries of one sprig, its high time, in milliseconds, and the tally of its entries.
+///
+/// It has two words, so it is moved at little cost. What else it needs lies in a box, which no sprig has while no room in it was
+/// ever asked for.
 #[derive(Drop)]
 pub struct Sprig {
-    arena: Arena,
-    // By slot, as are the sizes.
-    links: Vec<Link>,
-    sizes: Vec<u32>,
-    root: u32,
-    count: u32,
-    // How many entries more there is room for, as was promised.
-    room: u32,
+    tree: Option<Box<Tree>>,
     high: u64,
-    tally: Tally,
+    alloc: Global,
 }
 
 impl Model for Sprig {
     ghost use Rattle.sprig_tree.specs.State.{SprigState};
-    ghost use Rattle.arena_sprig.specs.Tree.{entries_from};
-    ghost use Rattle.arena_sprig.specs.Growth.{IsSprig};
+    ghost use Rattle.arena_sprig.specs.Growth.{entries_of, spare_of};
 
     ghost Value = { SprigState };
 
-    ghost view = { λ s. record { entries = entries_from s.count s.arena.slots s.links.items s.root; hw = s.high; spare = s.room } };
-
-    ghost invariant = { λ s. IsSprig s.arena s.links.items s.root s.count s.room s.tally };
+    ghost view = { λ s. record { entries = entries_of s.tree; hw = s.high; spare = spare_of s.tree } };
 }
 
 impl Sprig {
@@ -46,14 +36,9 @@ impl Sprig {
         ensures { result ≡ record { entries = []; hw = 0; spare = 0 } }
     {
         Sprig {
-            arena: Arena::new(alloc),
-            links: Vec::new(alloc),
-            sizes: Vec::new(alloc),
-            root: NONE,
-            count: 0,
-            room: 0,
+            tree: None,
             high: 0,
-            tally: Tally::default(),
+            alloc,
         }
     }
 
@@ -69,11 +54,15 @@ impl Sprig {
         // It can fail only where that room was missing.
         ensures enough { n ≤ self.old.spare → IsOk result }
     {
-        if n <= self.room {
+        if n == 0 {
             return Ok(());
         }
-        grow(&mut self.arena, &mut self.links, &mut self.sizes, n)?;
-        self.room = self.arena.spare();
+        if let Some(tree) = &mut self.tree {
+            return tree.reserve(n);
+        }
+        let mut tree = Tree::new(self.alloc);
+        tree.reserve(n)?;
+        self.tree = Some(Box::new(self.alloc, tree)?);
         Ok(())
     }
 
@@ -88,18 +77,10 @@ impl Sprig {
           spare = self.old.spare - 1;
         } }
     {
-        edits::insert(
-            &mut self.arena,
-            &mut self.links,
-            &mut self.sizes,
-            &mut self.root,
-            self.count,
-            entry,
-        );
-        self.count += 1;
-        self.room -= 1;
-        self.tally = self.tally.plus(Tally::of(&entry));
-        self.high = self.high.max(entry.stamp.lut);
+        if let Some(tree) = &mut self.tree {
+            tree.insert(entry);
+        }
+        self.raise_hw(entry.stamp.lut);
     }
 
     /// The entry of a digest; none where it has none.
@@ -107,7 +88,10 @@ impl Sprig {
         ensures value { result ≡ entry_of digest.now self.now.entries }
         ensures sorted { IsInDigestOrder self.now.entries }
     {
-        look_up(&self.arena, &self.links, self.root, self.count, digest)
+        match &self.tree {
+            Some(tree) => tree.find(digest),
+            None => None,
+        }
     }
 
     /// The entry stands in place of the one of its digest then, which there must be. The high time rises to
@@ -119,9 +103,10 @@ impl Sprig {
           hw = max self.old.hw entry.stamp.lut;
         } }
     {
-        let old = edits::replace(&mut self.arena, &self.links, self.root, self.count, entry);
-        self.tally = self.tally.minus(Tally::of(&old)).plus(Tally::of(&entry));
-        self.high = self.high.max(entry.stamp.lut);
+        if let Some(tree) = &mut self.tree {
+            tree.replace(entry);
+        }
+        self.raise_hw(entry.stamp.lut);
     }
 
     /// The entry of a digest, which is taken out, where there was one. Its room is spare from then on, and
@@ -133,19 +118,10 @@ impl Sprig {
           spare = self.old.spare + (if is_some result then 1 else 0);
         } }
     {
-        self.find(digest)?;
-        let entry = edits::remove(
-            &mut self.arena,
-            &mut self.links,
-            &mut self.sizes,
-            &mut self.root,
-            self.count,
-            digest,
-        );
-        self.count -= 1;
-        self.room += 1;
-        self.tally = self.tally.minus(Tally::of(&entry));
-        Some(entry)
+        match &mut self.tree {
+            Some(tree) => tree.remove(digest),
+            None => None,
+        }
     }
 
     /// The first entry after a digest, which need not have one itself; of no digest, the first of all. None
@@ -154,9 +130,9 @@ impl Sprig {
         ensures value { result ≡ entry_after (option_copied digest.entry) self.now.entries }
         ensures sorted { IsInDigestOrder self.now.entries }
     {
-        match digest {
-            Some(digest) => first_after(&self.arena, &self.links, self.root, self.count, digest),
-            None => first(&self.arena, &self.links, self.root, self.count),
+        match &self.tree {
+            Some(tree) => tree.next_after(digest),
+            None => None,
         }
     }
 
@@ -165,21 +141,30 @@ impl Sprig {
         ensures value { result ≡ length self.now.entries }
         ensures sorted { IsInDigestOrder self.now.entries }
     {
-        u64::from(self.count)
+        match &self.tree {
+            Some(tree) => tree.len(),
+            None => 0,
+        }
     }
 
     /// How many entries a look-up of a digest visits.
     pub fn steps(&self, digest: &Digest) -> u32
         ensures { result ≤ length self.now.entries }
     {
-        steps_to(&self.arena, &self.links, self.root, self.count, digest)
+        match &self.tree {
+            Some(tree) => tree.steps(digest),
+            None => 0,
+        }
     }
 
     /// How many entries of each kind there are.
     pub fn tally(&self) -> Tally
         ensures { result ≡ tally_of self.now.entries }
     {
-        self.tally
+        match &self.tree {
+            Some(tree) => tree.tally(),
+            None => Tally::default(),
+        }
     }
 
     /// The high time, in milliseconds.

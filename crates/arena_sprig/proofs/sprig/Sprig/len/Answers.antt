@@ -1,15 +1,11 @@
-use Rattle.std.proofs.Common.{length, ap, subst, ◌∙◌}
+use Rattle.std.proofs.Common.{ap, sym, subst, ◌∙◌}
 use Rattle.sprig_tree.specs.Entries.{IsInDigestOrder}
 use Rattle.sprig_tree.specs.State.{SprigState}
-use Rattle.arena_sprig.proofs.Kept.{counted, in_order}
+use Rattle.sprig_tree.proofs.Order.{order-nil}
+use Rattle.arena_sprig.specs.Growth.{entries_of}
 use Rattle.arena_sprig.proofs.sprig.Sprig.len.Goals as goal
 
-pub returns-clause-value : goal.returns-clause-value
-returns-clause-value c =
-    let s = c.self.inside in
-    c.from.ensures ∙ counted s.arena s.links.items s.root s.count s.room s.tally c.self.invariant ∙ ap (λ (v : SprigState). length v.entries) c.self.view_is
-
-pub returns-clause-sorted : goal.returns-clause-sorted
-returns-clause-sorted c =
-    let s = c.self.inside in
-    subst IsInDigestOrder (ap (λ (v : SprigState). v.entries) c.self.view_is) (in_order s.arena s.links.items s.root s.count s.room s.tally c.self.invariant)
+-- a sprig without a tree has no entries
+pub returns-in-None-clause-sorted : goal.returns-in-None-clause-sorted
+returns-in-None-clause-sorted c =
+    subst IsInDigestOrder (ap entries_of (sym c.in-None.is) ∙ ap (λ (v : SprigState). v.entries) c.self.view_is) order-nil

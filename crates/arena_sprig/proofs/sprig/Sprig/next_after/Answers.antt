@@ -1,15 +1,11 @@
-use Rattle.std.proofs.Common.{ap, subst}
+use Rattle.std.proofs.Common.{ap, sym, subst, ◌∙◌}
 use Rattle.sprig_tree.specs.Entries.{IsInDigestOrder}
 use Rattle.sprig_tree.specs.State.{SprigState}
-use Rattle.arena_sprig.proofs.Kept.{in_order}
+use Rattle.sprig_tree.proofs.Order.{order-nil}
+use Rattle.arena_sprig.specs.Growth.{entries_of}
 use Rattle.arena_sprig.proofs.sprig.Sprig.next_after.Goals as goal
 
-pub returns-in-Some-clause-sorted : goal.returns-in-Some-clause-sorted
-returns-in-Some-clause-sorted c =
-    let s = c.self.inside in
-    subst IsInDigestOrder (ap (λ (v : SprigState). v.entries) c.self.view_is) (in_order s.arena s.links.items s.root s.count s.room s.tally c.self.invariant)
-
+-- a sprig without a tree has no entries
 pub returns-in-None-clause-sorted : goal.returns-in-None-clause-sorted
 returns-in-None-clause-sorted c =
-    let s = c.self.inside in
-    subst IsInDigestOrder (ap (λ (v : SprigState). v.entries) c.self.view_is) (in_order s.arena s.links.items s.root s.count s.room s.tally c.self.invariant)
+    subst IsInDigestOrder (ap entries_of (sym c.in-None.is) ∙ ap (λ (v : SprigState). v.entries) c.self.view_is) order-nil

@@ -4,9 +4,9 @@ use Rattle.sprig_tree.specs.declared.tally.Tally.{Tally}
 use Rattle.sprig_tree.specs.Entries.{entry_of, with_replaced}
 use Rattle.sprig_tree.specs.Tallies.{tally_of, joined, parted}
 use Rattle.arena_sprig.specs.Tree.{IsTree, entries_from}
-use Rattle.arena_sprig.specs.Growth.{IsSprig}
+use Rattle.arena_sprig.specs.Growth.{IsKept}
 use Rattle.arena_sprig.proofs.Kept.{after_replace}
-use Rattle.arena_sprig.proofs.sprig.Sprig.replace.Goals as goal
+use Rattle.arena_sprig.proofs.tree.Tree.replace.Goals as goal
 
 pub invariant_of-self : goal.invariant_of-self
 invariant_of-self c =
@@ -20,4 +20,4 @@ invariant_of-self c =
     c.replace-old.ensures.slots c.args.entry c.replace-old.result found tree list c.replace-old.ensures.spare in
     let tally : c.plus-self-inside.result ≡ joined (parted s.tally (tally_of (c.replace-old.result ∷ []))) (tally_of (c.args.entry ∷ [])) =
     c.plus-self-inside.ensures ∙ (λ i. joined (c.minus.ensures i) (c.of-2.ensures i)) ∙ ap (λ (t : Tally). joined (parted s.tally t) (tally_of (c.args.entry ∷ []))) c.of.ensures in
-    subst (λ (t : Tally). IsSprig c.replace-old.new.arena s.links.items s.root s.count s.room t) (sym tally) done
+    subst (λ (t : Tally). IsKept c.replace-old.new.arena s.links.items s.root s.count s.room t) (sym tally) done

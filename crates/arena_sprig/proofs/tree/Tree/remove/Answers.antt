@@ -7,10 +7,10 @@ use Rattle.sprig_tree.specs.declared.tally.Tally.{Tally}
 use Rattle.sprig_tree.specs.Entries.{entry_of, without_digest}
 use Rattle.sprig_tree.specs.Tallies.{tally_of, parted}
 use Rattle.arena_sprig.specs.Tree.{entries_from}
-use Rattle.arena_sprig.specs.Growth.{IsSprig}
+use Rattle.arena_sprig.specs.Growth.{IsKept}
 use Rattle.sprig_tree.proofs.Laws.{without_absent}
 use Rattle.arena_sprig.proofs.Kept.{after_remove}
-use Rattle.arena_sprig.proofs.sprig.Sprig.remove.Goals as goal
+use Rattle.arena_sprig.proofs.tree.Tree.remove.Goals as goal
 
 pub invariant_of-self : goal.invariant_of-self
 invariant_of-self c =
@@ -21,9 +21,9 @@ invariant_of-self c =
     let done = after_remove s.arena s.links.items s.root s.count s.room s.tally c.self.invariant c.remove-entry.new.arena links c.remove-entry.new.root
     c.remove-entry.ensures.slots c.args.digest.now c.remove-entry.result found c.remove-entry.ensures.kept list c.remove-entry.ensures.spare in
     let tally : c.minus-self-inside.result ≡ parted s.tally (tally_of (c.remove-entry.result ∷ [])) = c.minus-self-inside.ensures ∙ ap (λ (t : Tally). parted s.tally t) c.of.ensures in
-    subst (λ (l : List Link). IsSprig c.remove-entry.new.arena l c.remove-entry.new.root (s.count - 1) (s.room + 1) c.minus-self-inside.result)
+    subst (λ (l : List Link). IsKept c.remove-entry.new.arena l c.remove-entry.new.root (s.count - 1) (s.room + 1) c.minus-self-inside.result)
     (sym (with_items_is s.links links (c.remove-entry.auto.links ∙ c.deref_mut.ensures.len)))
-    (subst (λ (t : Tally). IsSprig c.remove-entry.new.arena links c.remove-entry.new.root (s.count - 1) (s.room + 1) t) (sym tally) done)
+    (subst (λ (t : Tally). IsKept c.remove-entry.new.arena links c.remove-entry.new.root (s.count - 1) (s.room + 1) t) (sym tally) done)
 
 pub returns-in_err-find-clause-rest : goal.returns-in_err-find-clause-rest
 returns-in_err-find-clause-rest c =
@@ -32,4 +32,4 @@ returns-in_err-find-clause-rest c =
     let entries = sym (without_absent c.args.digest.now v.entries absent) in
     let spare : v.spare ≡ v.spare + (if is_some c.from_residual.result then 1 else 0) = sym (add-zero v.spare)
     ∙ ap (λ (o : Option Entry). v.spare + (if is_some o then 1 else 0)) (sym c.from_residual.ensures) in
-    λ i. record { entries = entries i; hw = v.hw; spare = spare i }
+    λ i. record { entries = entries i; spare = spare i }

@@ -4,15 +4,15 @@ use Rattle.arena_sprig.specs.declared.links.Link.{Link}
 use Rattle.sprig_tree.specs.declared.tally.Tally.{Tally}
 use Rattle.sprig_tree.specs.Tallies.{tally_of}
 use Rattle.arena_sprig.specs.Tree.{Leaf, no_slot}
-use Rattle.arena_sprig.specs.Growth.{IsSprig}
+use Rattle.arena_sprig.specs.Growth.{IsKept}
 use Rattle.sprig_tree.proofs.Order.{order-nil}
-use Rattle.arena_sprig.proofs.sprig.Sprig.new.Goals as goal
+use Rattle.arena_sprig.proofs.tree.Tree.new.Goals as goal
 
 -- the numbers of no entry
 none : (t : Tally) → (t.records ≡ 0) × ((t.tombstones ≡ 0) × (t.covered ≡ 0)) → t ≡ tally_of []
 none t zeros = λ i. record { records = zeros.0 i; tombstones = zeros.1.0 i; covered = zeros.1.1 i }
 
-empty : (t : Tally) → t ≡ tally_of [] → IsSprig (record { slots = []; spare = 0 }) [] no_slot 0 0 t
+empty : (t : Tally) → t ≡ tally_of [] → IsKept (record { slots = []; spare = 0 }) [] no_slot 0 0 t
 empty t tallied = record {
   tree = record { tree = Leaf; hangs = refl; linked = record { each = omega arith; few = omega arith }; counted = refl; sorted = order-nil };
   filled = omega arith;
@@ -22,6 +22,6 @@ empty t tallied = record {
 
 pub invariant_of-result : goal.invariant_of-result
 invariant_of-result c =
-    subst (λ (a : ArenaState). IsSprig a c.new-2.result.items no_slot 0 0 c.default.result) (sym c.new.ensures)
-    (subst (λ (l : List Link). IsSprig (record { slots = []; spare = 0 }) l no_slot 0 0 c.default.result) (sym c.new-2.ensures.items)
+    subst (λ (a : ArenaState). IsKept a c.new-2.result.items no_slot 0 0 c.default.result) (sym c.new.ensures)
+    (subst (λ (l : List Link). IsKept (record { slots = []; spare = 0 }) l no_slot 0 0 c.default.result) (sym c.new-2.ensures.items)
     (empty c.default.result (none c.default.result c.default.ensures)))
