@@ -13,5 +13,5 @@ mod tree;
 mod turns;
 mod walks;
 
-pub use sprig::Sprig;
+pub use sprig::{BOXED, Sprig};
 pub use sprig_tree::{NoMemory, Tally};

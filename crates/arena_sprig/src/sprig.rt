@@ -10,6 +10,9 @@ use rec_format::{Digest, Entry};
 use std::alloc::Global;
 use std::marker::Model;
 
+/// How many bytes a sprig has in its box, where it has one.
+pub const BOXED: u64 = size_of::<Tree>() as u64;
+
 /// The entries of one sprig, its high time, in milliseconds, and the tally of its entries.
 ///
 /// It has two words, so it is moved at little cost. What else it needs lies in a box, which no sprig has while no room in it was

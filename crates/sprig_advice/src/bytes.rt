@@ -1,10 +1,10 @@
 // The bytes of one sprig.
 ghost use Rattle.std.specs.Prelude.{◌≤◌, ◌^◌};
 
-use arena_sprig::Sprig;
+use arena_sprig::{BOXED, Sprig};
 use rec_format::Entry;
 
-/// A sprig without entries.
+/// A sprig that never had an entry.
 const SPRIG: u64 = size_of::<Sprig>() as u64;
 
 /// A slot: its entry, and 4 bytes each for its place among the free ones, for its two links and for the size of what hangs there.
@@ -39,13 +39,12 @@ fn stages_of(slots: u64) -> u64
 
 /// The bytes that a sprig asks for that has so many entries, and never had more.
 pub fn bytes_for(entries: u64) -> u64 {
+    if entries == 0 {
+        return SPRIG;
+    }
     let slots = slots_for(entries);
     let stages = stages_of(slots);
     // They lie in a vector, which begins with room for four and doubles.
-    let headers = if stages == 0 {
-        0
-    } else {
-        stages.max(4).next_power_of_two()
-    };
-    SPRIG + slots * SLOT + headers * STAGE
+    let headers = stages.max(4).next_power_of_two();
+    SPRIG + BOXED + slots * SLOT + headers * STAGE
 }
