@@ -17,7 +17,7 @@ pub use entry::{Counts, Entry};
 pub use fields::{u16_at, u32_at, u64_at};
 pub use reading::{check_record, parse, parse_head};
 pub use stamps::next_stamp;
-pub use version::{BadRec, Digest, Head, Kind, ParseRefusal, Spent, Stamp, Version};
+pub use version::{BadRec, Digest, Head, Kind, ParseRefusal, Spent, Stamp, Version, VersionRef};
 pub use writing::{HEAD_BYTES, UNIT_BYTES, pack, pack_into, units_of};
 
 /// Want of memory.

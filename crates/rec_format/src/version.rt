@@ -1,4 +1,7 @@
+ghost use Rattle.std.specs.Prelude.{◌≡◌};
+
 use crate::bytes::Bytes;
+use std::marker::Model;
 
 /// The name of a record: 20 bytes, as an Aerospike digest has. Digests are ordered by their bytes.
 #[derive(Clone, Copy, PartialEq, Eq, PartialOrd, Ord)]
@@ -29,6 +32,39 @@ pub struct Version {
     pub void: u64,
     pub cover: bool,
     pub payload: Bytes,
+}
+
+/// A version whose payload is lent. Contracts see it as the version that it is.
+#[derive(Drop)]
+pub struct VersionRef<'a> {
+    pub kind: Kind,
+    pub stamp: Stamp,
+    pub void: u64,
+    pub cover: bool,
+    pub payload: &'a [u8],
+}
+
+impl<'a> Model for VersionRef<'a> {
+    ghost use Rattle.rec_format.specs.declared.version.Version.{Version};
+
+    ghost Value = { Version };
+
+    ghost view = { λ v. record { kind = v.kind; stamp = v.stamp; void = v.void; cover = v.cover; payload = v.payload.now } };
+}
+
+impl Version {
+    /// The version, whose payload is lent.
+    pub fn lent(&self) -> VersionRef<'_>
+        ensures { result ≡ self.now }
+    {
+        VersionRef {
+            kind: self.kind,
+            stamp: self.stamp,
+            void: self.void,
+            cover: self.cover,
+            payload: self.payload.as_slice(),
+        }
+    }
 }
 
 /// The fields of a record before its payload, whose length is in bytes.

@@ -4,7 +4,7 @@ ghost use Rattle.rec_format.specs.Versions.{IsVersion, units_for, version_units}
 ghost use Rattle.rec_format.specs.RecordText.{CanBeRecorded, flag_byte, record_head, record_text};
 
 use crate::NoMemory;
-use crate::version::{Digest, Kind, Version};
+use crate::version::{Digest, Kind, Version, VersionRef};
 use byteorder::{ByteOrder, LittleEndian};
 use std::alloc::Global;
 
@@ -36,7 +36,7 @@ fn flags_of(kind: Kind, cover: bool) -> u8
 }
 
 /// The bytes before the payload.
-fn head_of(version: &Version, digest: &Digest, size: u32) -> [u8; HEAD_BYTES]
+fn head_of(version: &VersionRef<'_>, digest: &Digest, size: u32) -> [u8; HEAD_BYTES]
     requires { size ≡ length version.now.payload }
     ensures text { result ≡ record_head digest.now version.now }
     ensures size { length result ≡ HEAD_BYTES }
@@ -54,7 +54,7 @@ fn head_of(version: &Version, digest: &Digest, size: u32) -> [u8; HEAD_BYTES]
 
 /// The text of a record stands at the front of `out` then: the head, the payload, and zeros up to a whole unit of 16
 /// bytes. What stands behind it stays. It takes no memory, and isn't refused.
-pub fn pack_into(version: &Version, digest: &Digest, out: &mut [u8])
+pub fn pack_into(version: &VersionRef<'_>, digest: &Digest, out: &mut [u8])
     requires version { IsVersion version.now }
     requires size { length version.now.payload ≤ 2 ^ 31 }
     requires room { 16 * version_units version.now ≤ length out.old }
@@ -62,7 +62,7 @@ pub fn pack_into(version: &Version, digest: &Digest, out: &mut [u8])
         ≡ record_text digest.now version.now ++ drop (16 * version_units version.now) out.old }
     ensures recordable { CanBeRecorded digest.now version.now }
 {
-    let payload = version.payload.as_slice();
+    let payload = version.payload;
     let size = payload.len() as u32;
     let end = HEAD_BYTES + payload.len();
     let whole = UNIT_BYTES * units_of(size) as usize;
@@ -90,6 +90,6 @@ pub fn pack(
     let whole = UNIT_BYTES * units_of(size) as usize;
     out.reserve(whole)?;
     out.resize(start + whole, 0)?;
-    pack_into(version, digest, &mut out[start..]);
+    pack_into(&version.lent(), digest, &mut out[start..]);
     Ok(())
 }

@@ -11,7 +11,7 @@ use crate::parts::{put_head, put_record};
 use crate::phase::Phase;
 use crate::stream::Stream;
 use block_format::{BODY_HEAD_BYTES, SECTOR_BYTES, capacity};
-use rec_format::{Digest, UNIT_BYTES, Version, units_of};
+use rec_format::{Digest, UNIT_BYTES, VersionRef, units_of};
 use std::alloc::Global;
 use std::marker::Model;
 
@@ -82,7 +82,7 @@ impl Buffer {
 
     /// The record of a version, for which there is room, stands behind the others then, and the unit at which it begins is answered: the
     /// units of the records before it. It takes no memory.
-    pub fn append(&mut self, digest: &Digest, version: &Version) -> u32
+    pub fn append(&mut self, digest: &Digest, version: &VersionRef<'_>) -> u32
         requires filling { self.old.phase ≡ Filling }
         requires version { IsVersion version.now }
         requires room { used_units self.old + version_units version.now ≤ self.old.capacity }
@@ -93,7 +93,7 @@ impl Buffer {
         let place = BODY_HEAD_BYTES + UNIT_BYTES * unit as usize;
         put_record(&mut self.bytes, place, digest, version);
         self.count += 1;
-        self.used += units_of(version.payload.as_slice().len() as u32);
+        self.used += units_of(version.payload.len() as u32);
         put_head(
             &mut self.bytes,
             self.number,

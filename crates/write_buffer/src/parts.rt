@@ -5,7 +5,7 @@ ghost use Rattle.rec_format.specs.RecordText.{CanBeRecorded, record_text};
 ghost use Rattle.block_format.specs.Layout.{body_head_text};
 
 use block_format::{BODY_HEAD_BYTES, write_head};
-use rec_format::{Digest, Version, pack_into};
+use rec_format::{Digest, VersionRef, pack_into};
 
 /// Writes the head of a body over the front of some bytes. What stands behind it stays.
 pub(crate) fn put_head(bytes: &mut [u8], number: u64, records: u32, units: u32, block: u32)
@@ -18,7 +18,7 @@ pub(crate) fn put_head(bytes: &mut [u8], number: u64, records: u32, units: u32, 
 }
 
 /// Writes a record over some bytes, from a place on. What stands before and behind it stays.
-pub(crate) fn put_record(bytes: &mut [u8], place: usize, digest: &Digest, version: &Version)
+pub(crate) fn put_record(bytes: &mut [u8], place: usize, digest: &Digest, version: &VersionRef<'_>)
     requires version { IsVersion version.now }
     requires size { length version.now.payload ≤ 2 ^ 31 }
     requires room { place + 16 * version_units version.now ≤ length bytes.old }

@@ -1,6 +1,7 @@
 -- The text is its three parts, and the bytes and the lengths that the types keep let it be recorded.
 use Rattle.std.proofs.Common.{arith, ◌≡◌, ◌∙◌, length, ap, ◌≤◌, ◌<◌, ◌+◌, ◌*◌, ◌^◌, ◌-◌, ◌++◌, drop, sym, ℕ, replicate}
 use Rattle.std.proofs.lemmas.List.{length-take-le}
+use Rattle.rec_format.specs.declared.version.Version.{Version}
 use Rattle.rec_format.specs.RecordText.{record_head}
 use Rattle.rec_format.specs.Versions.{version_units, units_for}
 use Rattle.rec_format.proofs.TextParts.{written_parts, zeros_room, text_fits}
@@ -15,13 +16,13 @@ copy_from_slice-requires c = length-take-le 48 c.args.out.now (omega arith) ∙ 
 pub returns-clause-text : goal.returns-clause-text
 returns-clause-text c =
     let v = c.args.version.now in
-    let n_is : length c.as_slice-payload.result.now ≡ length v.payload = ap length c.as_slice-payload.ensures in
-    let n = length c.as_slice-payload.result.now in
+    let seen : c.version.inside.payload.now ≡ v.payload = ap (λ (w : Version). w.payload) c.version.view_is in
+    let n_is : length c.version.inside.payload.now ≡ length v.payload = ap length seen in
+    let n = length c.version.inside.payload.now in
     let u_is : c.units_of.result ≡ version_units v = c.units_of.ensures ∙ ap units_for n_is in
-    let n = length c.as_slice-payload.result.now in
     let u = c.units_of.result in
     let head_is = c.copy_from_slice.ensures.after ∙ c.head_of.ensures.text in
-    let payload_is = c.copy_from_slice-2.ensures.after ∙ c.as_slice-payload.ensures in
+    let payload_is = c.copy_from_slice-2.ensures.after ∙ seen in
     let size = ap length (sym c.head_of.ensures.text) ∙ c.head_of.ensures.size in
     let fits : 48 + n ≤ 16 * u = omega arith in
     let room = zeros_room c.args.out.now c.copy_from_slice.new.self c.copy_from_slice-2.new.self n (16 * u) (ap length head_is ∙ size) (ap length payload_is ∙ sym n_is) fits (omega arith) in

@@ -1,6 +1,7 @@
 -- The record stands behind the others, and the head tells of it.
 use Rattle.std.proofs.Common.{◌≡◌, ℕ, ◌+◌, ◌*◌, ◌≤◌, List, ◌++◌, length, take, drop, refl, sym, ap, ◌∙◌, subst, arith}
-use Rattle.rec_format.specs.Versions.{units_for, version_units}
+use Rattle.rec_format.specs.declared.version.Version.{Version}
+use Rattle.rec_format.specs.Versions.{version_units}
 use Rattle.rec_format.specs.RecordText.{record_text}
 use Rattle.block_format.specs.Layout.{body_head_text}
 use Rattle.write_buffer.specs.Buffers.{BufferState, KeepsBody, bytes_of, seen_buffer, used_units, with_record}
@@ -39,7 +40,7 @@ count_after c = ap (λ (k : ℕ). k + 1) (sym (length-records_in c.self.inside.c
 
 units_after : (c : goal.After-self-4-1) → c.self.inside.used + c.units_of.result ≡ used_units (before c) + version_units c.args.version.now
 units_after c =
-    let taken : c.units_of.result ≡ version_units c.args.version.now = c.units_of.ensures ∙ ap (λ (l : List ℕ). units_for (length l)) c.as_slice.ensures in
+    let taken : c.units_of.result ≡ version_units c.args.version.now = c.units_of.ensures ∙ ap (λ (v : Version). version_units v) c.version.view_is in
     λ i. c.self.invariant.used_is i + taken i
 
 record_size : (c : goal.After-self-4-1) → length c.put_record.new.bytes ≡ length c.self.inside.bytes.items
