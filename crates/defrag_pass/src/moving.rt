@@ -89,7 +89,7 @@ pub fn move_one<D: Disk>(
     let place = place_of_entry(&entry);
     prove!(place.block < shelf.geometry().blocks);
     let version = read_for(alloc, shelf, place, &entry)?;
-    match shelf.append(alloc, digest, &version, Some(place), Class::Move) {
+    match shelf.append(alloc, digest, &version.lent(), Some(place), Class::Move) {
         Ok(new) => {
             sprig.replace(entry_at(&entry, new));
             Ok(true)

@@ -1,3 +1,4 @@
 pub mod Every
 pub mod EachLane
 pub mod Chunks
+pub mod Spared

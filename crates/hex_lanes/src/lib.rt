@@ -1,7 +1,7 @@
 //! Hex text of bytes and back, sixteen bytes at a time: what the crate `hex` answers, in a fraction of its time.
 #![tactic(auto)]
 
-ghost use Rattle.std.specs.Prelude.{◌≡◌, ◌+◌, ◌*◌, ◌%◌, ◌^◌, ◌<◌, ◌≤◌, ◌⊎◌, ◌++◌, length, Ok, Err, IfOk, IfErr, IsOk, OnOk, OnErr, MatchResult};
+ghost use Rattle.std.specs.Prelude.{◌≡◌, ◌≢◌, ◌+◌, ◌*◌, ◌%◌, ◌^◌, ◌<◌, ◌≤◌, ◌⊎◌, ◌++◌, length, Ok, Err, IfOk, IfErr, IsOk, OnOk, OnErr, MatchResult};
 ghost use Rattle.std.specs.String.{string_bytes};
 ghost use Rattle.std.specs.Vec.{vec_len, vec_capacity};
 ghost use Rattle.hex.specs.Hex.{decode_of, encode_lower};
@@ -108,6 +108,22 @@ pub fn decode_into(text: &[u8], bytes: &mut [u8]) -> Result<(), FromHexError>
     }
 }
 
+/// At `Ok` the vector is the bytes that hex digits of either case spell, in the room that it has, where that is enough, and whatever stood
+/// in it. An `Err` is an odd length, the first byte that is no digit, or want of memory, which comes only where the room was missing; the
+/// vector may have any bytes then.
+pub fn decode_over(text: &[u8], bytes: &mut Vec<u8>) -> Result<(), FromHexError>
+    ensures ok { OnOk result (decode_of text.now ≡ Ok bytes.new.items) }
+    ensures err { IfErr result (λ e. (e ≡ OutOfMemory) ⊎ (decode_of text.now ≡ Err e)) }
+    ensures odd { length text.now % 2 ≡ 1 → result ≡ Err OddLength }
+    ensures room { length text.now ≤ 2 * vec_capacity bytes.old → result ≢ Err OutOfMemory }
+{
+    if text.len() % 2 != 0 {
+        return Err(FromHexError::OddLength);
+    }
+    bytes.resize(text.len() / 2, 0)?;
+    decode_into(text, bytes.as_mut_slice())
+}
+
 /// The bytes that hex digits of either case spell. An `Err` is an odd length, the first byte that is no digit, or want of
 /// memory: a text of odd length takes none.
 pub fn decode(alloc: Global, text: &[u8]) -> Result<Vec<u8>, FromHexError>
@@ -115,10 +131,7 @@ pub fn decode(alloc: Global, text: &[u8]) -> Result<Vec<u8>, FromHexError>
     ensures err { IfErr result (λ e. (e ≡ OutOfMemory) ⊎ (decode_of text.now ≡ Err e)) }
     ensures odd { length text.now % 2 ≡ 1 → result ≡ Err OddLength }
 {
-    if text.len() % 2 != 0 {
-        return Err(FromHexError::OddLength);
-    }
-    let mut bytes = vec![in alloc; 0u8; text.len() / 2]?;
-    decode_into(text, bytes.as_mut_slice())?;
+    let mut bytes = Vec::new(alloc);
+    decode_over(text, &mut bytes)?;
     Ok(bytes)
 }

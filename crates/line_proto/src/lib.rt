@@ -19,7 +19,7 @@ pub use lines::Lines;
 pub use open_line::OpenLine;
 pub use parts::cut;
 pub use print::print_reply;
-pub use read::read_command;
+pub use read::{read_command, read_command_in};
 pub use reply::{LineFault, Reply};
 pub use spell::print_command;
 use std::alloc::AllocError;

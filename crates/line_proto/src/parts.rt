@@ -8,6 +8,7 @@ use crate::NoMemory;
 use memchr::memchr;
 use rec_format::{Bytes, Digest};
 use std::alloc::{AllocError, Global};
+use std::mem;
 
 /// What stands before the first such byte, and behind it; none where there is none.
 pub fn cut(text: &[u8], separator: u8) -> Option<(&[u8], &[u8])>
@@ -67,18 +68,18 @@ pub fn expect_of(text: &[u8]) -> Option<Option<u16>>
     }
 }
 
-/// At `Ok` the bytes that hex digits of either case spell, no bytes for a dash, and nothing for any other text. An
-/// `Err` is want of memory.
-pub fn data_of(alloc: Global, text: &[u8]) -> Result<Option<Bytes>, NoMemory>
+/// At `Ok` the bytes that hex digits of either case spell, which take this room with them, no bytes for a dash, and nothing for any
+/// other text. An `Err` is want of memory.
+pub fn data_of(alloc: Global, text: &[u8], room: &mut Vec<u8>) -> Result<Option<Bytes>, NoMemory>
     ensures read { IfOk result (λ read. (bytes : List ℕ) → (read ≡ Some bytes) ↔ IsDataText text.now bytes) }
     ensures memory { IsErr result → text.now ≢ codes "-" }
 {
     if text == b"-".as_slice() {
         return Ok(Some(Bytes::from_vec(Vec::new(alloc))));
     }
-    match hex_lanes::decode(alloc, text) {
-        Ok(bytes) if bytes.is_empty() => Ok(None),
-        Ok(bytes) => Ok(Some(Bytes::from_vec(bytes))),
+    match hex_lanes::decode_over(text, room) {
+        Ok(()) if room.is_empty() => Ok(None),
+        Ok(()) => Ok(Some(Bytes::from_vec(mem::replace(room, Vec::new(alloc))))),
         Err(hex::FromHexError::OutOfMemory) => Err(AllocError),
         Err(_) => Ok(None),
     }

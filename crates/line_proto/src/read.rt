@@ -75,7 +75,7 @@ fn of_digest(word: &[u8], text: &[u8]) -> Option<Command>
     None
 }
 
-fn put_of(alloc: Global, text: &[u8]) -> Result<Option<Command>, NoMemory>
+fn put_of(alloc: Global, text: &[u8], room: &mut Vec<u8>) -> Result<Option<Command>, NoMemory>
     ensures read { IfOk result (λ read. (command : Command) → (read ≡ Some command) ↔ IsPutCommand text.now command) }
     ensures memory { IsErr result → IsPutFront text.now }
 {
@@ -91,7 +91,7 @@ fn put_of(alloc: Global, text: &[u8]) -> Result<Option<Command>, NoMemory>
     let Some(expect) = expect_of(expect) else {
         return Ok(None);
     };
-    let Some(payload) = data_of(alloc, data)? else {
+    let Some(payload) = data_of(alloc, data, room)? else {
         return Ok(None);
     };
     let ttl = ttl as u32;
@@ -110,6 +110,21 @@ pub fn read_command(alloc: Global, line: &[u8]) -> Result<Option<Command>, NoMem
     ensures memory { IsErr result → IsPutToData line.now }
     ensures in_range { IfOk result (λ read. IfSome read IsInRange) }
 {
+    let mut room = Vec::new(alloc);
+    read_command_in(alloc, line, &mut room)
+}
+
+/// As `read_command`, and the data of a put stand in this room, which the command takes with it: memory is asked for only where
+/// they don't fit. What stood in the room is of no matter, and what stands in it behind the call neither.
+pub fn read_command_in(
+    alloc: Global,
+    line: &[u8],
+    room: &mut Vec<u8>,
+) -> Result<Option<Command>, NoMemory>
+    ensures exact { IfOk result (λ read. (command : Command) → (read ≡ Some command) ↔ IsCommandLine line.now command) }
+    ensures memory { IsErr result → IsPutToData line.now }
+    ensures in_range { IfOk result (λ read. IfSome read IsInRange) }
+{
     if line.len() > LINE_LIMIT {
         return Ok(None);
     }
@@ -117,7 +132,7 @@ pub fn read_command(alloc: Global, line: &[u8]) -> Result<Option<Command>, NoMem
         return Ok(alone_of(line));
     };
     if word == b"put".as_slice() {
-        return put_of(alloc, text);
+        return put_of(alloc, text, room);
     }
     Ok(of_digest(word, text))
 }

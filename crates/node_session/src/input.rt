@@ -54,7 +54,8 @@ fn serve_rest<T: Store, L: Sink, C: Clock>(
     ensures taken { L.taken link.new ≡ L.taken link.old }
     ensures source_faults { L.source_faults link.new ≡ L.source_faults link.old }
 {
-    let stopped = turn(alloc, store, clock, None, replies);
+    let mut room = Vec::new(alloc);
+    let stopped = turn(alloc, store, clock, None, &mut room, replies);
     if replies.hand_on(link).is_err() {
         return Ended::SinkFault;
     }
@@ -89,6 +90,7 @@ fn serve<T: Store, L: Source + Sink, C: Clock>(
     ensures sink_later { L.sink_faults link.old ≤ L.sink_faults link.new }
 {
     let mut tail = OpenLine::new(alloc);
+    let mut data_room = Vec::new(alloc);
     let mut replies = Replies::new(alloc);
     let mut answered = 0;
     let mut taken = 0;
@@ -111,6 +113,7 @@ fn serve<T: Store, L: Source + Sink, C: Clock>(
             clock,
             &mut tail,
             &buffer[..count],
+            &mut data_room,
             &mut replies,
             &mut answered,
         ) {

@@ -37,6 +37,7 @@ pub fn serve_piece<T: Store, L: Sink, C: Clock>(
     clock: &mut C,
     tail: &mut OpenLine,
     piece: &[u8],
+    room: &mut Vec<u8>,
     replies: &mut Replies,
     answered: &mut u64,
 ) -> Result<Served, SinkFault>
@@ -71,7 +72,7 @@ pub fn serve_piece<T: Store, L: Sink, C: Clock>(
             replies.hand_on(link)?;
             return Ok(Served::NoMemory);
         }
-        if let Some(stop) = turn(alloc, store, clock, tail.lend(last), replies) {
+        if let Some(stop) = turn(alloc, store, clock, tail.lend(last), room, replies) {
             replies.hand_on(link)?;
             return Ok(Served::StoppedAt(stop));
         }

@@ -8,17 +8,21 @@ ghost use Rattle.node_session.specs.Turns.{Answers, Quits, WholeTurn, StopsAtLin
 use crate::replies::Replies;
 use crate::stop::Stop;
 use io_traits::Clock;
-use line_proto::{Command, LineFault, Reply, Store, read_command};
+use line_proto::{Command, LineFault, Reply, Store, read_command_in};
 use std::alloc::Global;
 
 const LATEST: u64 = 1 << 61;
 
-/// The reply to a line, which is none where it is too long, and whether the line was `quit`.
+/// How much room for the data of a put is kept for later ones.
+const KEPT_ROOM: usize = 262_144;
+
+/// The reply to a line, which is none where it is too long, and whether the line was `quit`. The data of a put stand in the room meanwhile.
 fn answer<T: Store, C: Clock>(
     alloc: Global,
     store: &mut T,
     clock: &mut C,
     line: Option<&[u8]>,
+    room: &mut Vec<u8>,
 ) -> (Reply, bool)
     ensures { MatchBool result.1
         (Quits (as_end (option_map (λ bytes. bytes.now) line.entry)) store.old (C.times clock.old) result.0 store.new (C.times clock.new))
@@ -27,7 +31,7 @@ fn answer<T: Store, C: Clock>(
     let Some(bytes) = line else {
         return (Reply::Fail(LineFault::Line), false);
     };
-    match read_command(alloc, bytes) {
+    match read_command_in(alloc, bytes, room) {
         Err(_) => (Reply::Fail(LineFault::Memory), false),
         Ok(None) => (Reply::Fail(LineFault::Line), false),
         Ok(Some(command)) => {
@@ -35,7 +39,19 @@ fn answer<T: Store, C: Clock>(
             if let Command::Quit = command {
                 return (Reply::Bye, true);
             }
-            (store.act(alloc, &command, now), false)
+            let reply = store.act(alloc, &command, now);
+            take_back(command, room);
+            (reply, false)
+        }
+    }
+}
+
+/// The room that the data of a put took becomes room for later data, where it is more, and isn't more than is kept.
+fn take_back(command: Command, room: &mut Vec<u8>) {
+    if let Command::Put { payload, .. } = command {
+        let data = payload.into_vec();
+        if room.capacity() < data.capacity() && data.capacity() <= KEPT_ROOM {
+            *room = data;
         }
     }
 }
@@ -56,6 +72,7 @@ pub fn turn<T: Store, C: Clock>(
     store: &mut T,
     clock: &mut C,
     line: Option<&[u8]>,
+    room: &mut Vec<u8>,
     replies: &mut Replies,
 ) -> Option<Stop>
     ensures done { IfNone result ((reply : Reply)
@@ -65,7 +82,7 @@ pub fn turn<T: Store, C: Clock>(
         × StopsAtLine T.acts T.tends (as_end (option_map (λ bytes. bytes.now) line.entry)) store.old (C.times clock.old) last store.new (C.times clock.new) stop
         × (replies.new ≡ replies.old ++ last)) }
 {
-    let (reply, quits) = answer(alloc, store, clock, line);
+    let (reply, quits) = answer(alloc, store, clock, line, room);
     if let Reply::Halted = reply {
         return Some(Stop::Halted);
     }

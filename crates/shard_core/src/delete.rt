@@ -29,7 +29,7 @@ use arena_sprig::Sprig;
 use block_shelf::{Class, Shelf};
 use disk_model::Disk;
 use expiry_rule::seen;
-use rec_format::{Bytes, Digest, Entry, Kind, Stamp, Version};
+use rec_format::{Digest, Entry, Kind, Stamp, VersionRef};
 use std::alloc::Global;
 use tomb_rules::delete_writes;
 
@@ -168,7 +168,7 @@ fn entomb<D: Disk>(
     ensures shape { SameShape shelf.old shelf.new }
 {
     let stamp = stamp_after(found, sprig.hw(), now)?;
-    let tombstone = tombstone(alloc, stamp);
+    let tombstone = tombstone(stamp);
     write_step(
         alloc,
         sprig,
@@ -181,14 +181,14 @@ fn entomb<D: Disk>(
     )
 }
 
-fn tombstone(alloc: Global, stamp: Stamp) -> Version
+fn tombstone(stamp: Stamp) -> VersionRef<'static>
     ensures { result ≡ a_tombstone stamp }
 {
-    Version {
+    VersionRef {
         kind: Kind::Tomb,
         stamp,
         void: 0,
         cover: true,
-        payload: Bytes::from_vec(Vec::new(alloc)),
+        payload: b"".as_slice(),
     }
 }

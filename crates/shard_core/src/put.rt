@@ -1,5 +1,5 @@
 // A put over the sprig of its digest and the shelf: what the one look-up finds decides the version that it writes.
-ghost use Rattle.std.specs.Prelude.{◌≡◌, ◌⊎◌, ◌≤◌, ◌^◌, true, false, length, IfErr, IfOk, MatchResult};
+ghost use Rattle.std.specs.Prelude.{◌≡◌, ◌⊎◌, ◌≤◌, ◌^◌, true, false, length, IfErr, MatchResult};
 ghost use Rattle.std.specs.Option.{option_copied};
 ghost use Rattle.disk_model.specs.Disk.{IsHonest};
 ghost use Rattle.rec_format.specs.Places.{device_number};
@@ -29,7 +29,7 @@ use block_format::capacity;
 use block_shelf::{Class, Shelf};
 use disk_model::Disk;
 use expiry_rule::{seen, void_of};
-use rec_format::{Bytes, Digest, Entry, Kind, NoMemory, Stamp, Version, units_of};
+use rec_format::{Digest, Entry, Kind, Stamp, VersionRef, units_of};
 use std::alloc::Global;
 use tomb_rules::cover_after;
 
@@ -81,15 +81,12 @@ pub fn put_step<D: Disk>(
         generation_of(found, now),
     )?;
     let stamp = stamp_after(found, sprig.hw(), now)?;
-    let Ok(version) = new_put(
-        alloc,
+    let version = new_put(
         stamp,
         void_of(ttl, now),
         cover_after(found.as_ref()),
         payload,
-    ) else {
-        return Err(WriteRefusal::Memory);
-    };
+    );
     write_step(
         alloc,
         sprig,
@@ -135,21 +132,15 @@ fn check_put(
     Ok(())
 }
 
-// A put.
-fn new_put(
-    alloc: Global,
-    stamp: Stamp,
-    void: u64,
-    cover: bool,
-    payload: &[u8],
-) -> Result<Version, NoMemory>
-    ensures { IfOk result (λ version. version ≡ a_put stamp void cover payload.now) }
+// A put, whose payload is lent.
+fn new_put(stamp: Stamp, void: u64, cover: bool, payload: &[u8]) -> VersionRef<'_>
+    ensures { result ≡ a_put stamp void cover payload.now }
 {
-    Ok(Version {
+    VersionRef {
         kind: Kind::Put,
         stamp,
         void,
         cover,
-        payload: Bytes::from_vec(payload.to_vec(alloc)?),
-    })
+        payload,
+    }
 }

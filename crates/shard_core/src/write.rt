@@ -38,7 +38,7 @@ use crate::{Settings, WriteRefusal};
 use arena_sprig::Sprig;
 use block_shelf::{Class, Place, Shelf};
 use disk_model::Disk;
-use rec_format::{Digest, Entry, Stamp, Version, next_stamp};
+use rec_format::{Digest, Entry, Stamp, VersionRef, next_stamp};
 use std::alloc::Global;
 
 /// Writes a version of a digest, whose entry so far is `found`, and answers its stamp. It goes to a write buffer; with commit on it is
@@ -50,7 +50,7 @@ pub(crate) fn write_step<D: Disk>(
     shelf: &mut Shelf<D>,
     set: &Settings,
     digest: &Digest,
-    version: &Version,
+    version: &VersionRef<'_>,
     found: Option<Entry>,
     class: Class,
 ) -> Result<Stamp, WriteRefusal>
@@ -106,7 +106,7 @@ fn append_entry<D: Disk>(
     sprig: &mut Sprig,
     shelf: &mut Shelf<D>,
     digest: &Digest,
-    version: &Version,
+    version: &VersionRef<'_>,
     found: Option<Entry>,
     class: Class,
 ) -> Result<u32, WriteRefusal>
@@ -170,7 +170,7 @@ fn enter(sprig: &mut Sprig, known: bool, entry: Entry)
 }
 
 // The entry of a version whose copy lies there. It isn't marked.
-fn entry_at(digest: &Digest, version: &Version, place: Place) -> Entry
+fn entry_at(digest: &Digest, version: &VersionRef<'_>, place: Place) -> Entry
     requires units { place.units ≡ version_units version.now }
     ensures { result ≡ entry_of_copy digest.now version.now place.block place.unit }
 {

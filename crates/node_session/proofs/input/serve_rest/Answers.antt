@@ -67,8 +67,8 @@ returns-then-is_err-clause-ends g c =
       ),
     )
 
-pub returns-in-None-clause-ends : goal.returns-in-None-clause-ends
-returns-in-None-clause-ends g c =
+pub returns-clause-ends : goal.returns-clause-ends
+returns-clause-ends g c =
     let done = c.in-None.ensures.done in
     let sends = c.hand_on.ensures.bytes in
     let none : sends.unsent ≡ [] = search rules in

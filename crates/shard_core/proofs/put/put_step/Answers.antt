@@ -67,12 +67,6 @@ returns-in_err-stamp-clause-makes g c setup s is stand =
     (refused (cause_of_write write.Spent)) (g.met.D.Disk.is_disk c.args.shelf.now.disk) stand
     (λ told event is answer steps. stands_against setup s told c.args.digest.now c.args.ttl c.args.expect c.args.payload.now c.args.now event (cause_of_write write.Spent) answer steps cause))
 
-pub returns-in_default-clause-makes : goal.returns-in_default-clause-makes
-returns-in_default-clause-makes g c setup s is stand =
-    makes_nothing g.D.Disk.view setup c.args.digest.now c.args.sprig.now c.args.shelf.now s (put_call c.args.digest.now c.args.ttl c.args.expect c.args.payload.now c.args.now)
-    (refused (cause_of_write write.Memory)) (g.met.D.Disk.is_disk c.args.shelf.now.disk) stand
-    (λ told event is answer steps. memory_wants setup s told c.args.digest.now c.args.ttl c.args.expect c.args.payload.now c.args.now event answer steps)
-
 pub write_step-requires-clause-version : goal.write_step-requires-clause-version
 write_step-requires-clause-version g c =
     let stands = c.requires.stand in
@@ -80,7 +74,7 @@ write_step-requires-clause-version g c =
     ap (λ (o : Option Entry). new_stamp (stamp_found o) c.args.sprig.now.hw c.args.now) (sym c.find-found.ensures.value)
     ∙ ap (λ (n : ℕ). new_stamp (stamp_found c.find-found.result) n c.args.now) (sym c.hw.ensures) ∙ c.in_ok-stamp.ensures {u = tt} in
     let f = stamp_fine stands.0 c.args.digest.now c.args.sprig.now stands.1 stands.3.sprig_stands c.args.now c.in_ok-stamp.stamp given in
-    subst IsVersion (sym (c.in-Ok.ensures {u = tt})) (record { tombstone = λ tomb. absurd (false≢true tomb); time = f.time; generation = f.generation; void = omega arith })
+    subst IsVersion (sym (c.new_put-version.ensures)) (record { tombstone = λ tomb. absurd (false≢true tomb); time = f.time; generation = f.generation; void = omega arith })
 
 pub returns-clause-makes : goal.returns-clause-makes
 returns-clause-makes g c setup s is stand =
@@ -95,8 +89,8 @@ returns-clause-makes g c setup s is stand =
     let fit : IsFit (length c.args.payload.now) c.capacity.result c.args.expect (generation_seen c.args.now (entry_of c.args.digest.now c.args.sprig.now.entries)) =
     subst (IsFit (length c.args.payload.now) c.capacity.result c.args.expect) (sym seen) (c.in_ok-check_put.ensures {u = tt}) in
     let cover : c.cover_after.result ≡ cover_of (entry_of c.args.digest.now c.args.sprig.now.entries) = c.cover_after.ensures ∙ ap cover_of (c.as_ref.ensures.value ∙ c.find-found.ensures.value) in
-    let version : c.in-Ok.version ≡ a_put stamp (void_time c.args.ttl c.args.now) (cover_of (entry_of c.args.digest.now c.args.sprig.now.entries)) c.args.payload.now =
-    c.in-Ok.ensures {u = tt} ∙ ap (λ (n : ℕ). a_put stamp n c.cover_after.result c.args.payload.now) c.void_of.ensures
+    let version : c.new_put-version.result ≡ a_put stamp (void_time c.args.ttl c.args.now) (cover_of (entry_of c.args.digest.now c.args.sprig.now.entries)) c.args.payload.now =
+    c.new_put-version.ensures ∙ ap (λ (n : ℕ). a_put stamp n c.cover_after.result c.args.payload.now) c.void_of.ensures
     ∙ ap (λ (b : Bool). a_put stamp (void_time c.args.ttl c.args.now) b c.args.payload.now) cover in
     let writes = put_writes setup c.args.digest.now c.args.sprig.now s stand.sprig_stands c.args.now c.args.ttl c.args.expect c.args.payload.now c.capacity.result capacity fit stamp
     given (own_of setup c.args.shelf.now is.of_shelf c.args.digest.now c.requires.named) in
@@ -105,11 +99,11 @@ returns-clause-makes g c setup s is stand =
     (sym version) writes) in
     by c.write_step.result c.write_step.ensures.stamp made (ap (λ (v : Version). v.stamp) version)
   where
-    by : (r : Result Stamp WriteRefusal) → IfOk r (λ stamp. stamp ≡ c.in-Ok.version.stamp)
+    by : (r : Result Stamp WriteRefusal) → IfOk r (λ stamp. stamp ≡ c.new_put-version.result.stamp)
         → StepMakes g.D.Disk.view setup (part_of setup c.args.digest.now)
         (put_call c.args.digest.now c.args.ttl c.args.expect c.args.payload.now c.args.now)
         (written_answer (stamp_given c.in_ok-stamp.stamp) r) c.args.shelf.now s c.write_step.new.sprig c.write_step.new.shelf
-        → c.in-Ok.version.stamp ≡ c.in_ok-stamp.stamp
+        → c.new_put-version.result.stamp ≡ c.in_ok-stamp.stamp
         → StepMakes g.D.Disk.view setup (part_of setup c.args.digest.now)
         (put_call c.args.digest.now c.args.ttl c.args.expect c.args.payload.now c.args.now) (write_answer r) c.args.shelf.now s c.write_step.new.sprig c.write_step.new.shelf
     by (Ok x) same made stamped =
@@ -149,21 +143,6 @@ returns-in_err-stamp-clause-honest g c honest = honest
 
 pub returns-in_err-stamp-clause-shape : goal.returns-in_err-stamp-clause-shape
 returns-in_err-stamp-clause-shape g c = record { geometry = refl; limits = refl; raid = refl }
-
-pub returns-in_default-clause-in_room : goal.returns-in_default-clause-in_room
-returns-in_default-clause-in_room g c waits room = refl
-
-pub returns-in_default-clause-quiet : goal.returns-in_default-clause-quiet
-returns-in_default-clause-quiet g c waits shut = refl
-
-pub returns-in_default-clause-later : goal.returns-in_default-clause-later
-returns-in_default-clause-later g c = later_none g.D.Disk.view c.args.shelf.now.disk (g.met.D.Disk.is_disk c.args.shelf.now.disk)
-
-pub returns-in_default-clause-honest : goal.returns-in_default-clause-honest
-returns-in_default-clause-honest g c honest = honest
-
-pub returns-in_default-clause-shape : goal.returns-in_default-clause-shape
-returns-in_default-clause-shape g c = record { geometry = refl; limits = refl; raid = refl }
 
 pub returns-clause-later : goal.returns-clause-later
 returns-clause-later g c = c.write_step.ensures.later
@@ -211,17 +190,11 @@ returns-in_err-stamp-clause-refused g c =
     subst (λ (r : Result Stamp WriteRefusal). IfErr r (λ e. ((e ≡ write.Fault) × (c.args.set.now.commit ≡ true))
     ⊎ IsRefusedStep c.args.sprig.now c.args.sprig.now c.args.shelf.now c.args.shelf.now e)) (sym same) (inr (record { sprig = record { entries = refl; high = refl }; shelf = refl }))
 
-pub returns-in_default-clause-refused : goal.returns-in_default-clause-refused
-returns-in_default-clause-refused g c = inr (record { sprig = record { entries = refl; high = refl }; shelf = room_none c.args.shelf.now })
-
 pub returns-in_err-check_put-clause-sure : goal.returns-in_err-check_put-clause-sure
 returns-in_err-check_put-clause-sure g c = sure_none g.D.Disk.view c.args.shelf.now c.args.shelf.now refl
 
 pub returns-in_err-stamp-clause-sure : goal.returns-in_err-stamp-clause-sure
 returns-in_err-stamp-clause-sure g c = sure_none g.D.Disk.view c.args.shelf.now c.args.shelf.now refl
-
-pub returns-in_default-clause-sure : goal.returns-in_default-clause-sure
-returns-in_default-clause-sure g c = sure_none g.D.Disk.view c.args.shelf.now c.args.shelf.now refl
 
 pub returns-clause-sure : goal.returns-clause-sure
 returns-clause-sure g c = c.write_step.ensures.sure
@@ -238,12 +211,9 @@ returns-in_err-stamp-clause-kept g c =
     let p = err_from_is_err_and c.from_residual-in_err-stamp.result c.from_residual-in_err-stamp.ensures.1 in
     keeps_all c.args.set.now.commit (units_for (length c.args.payload.now)) c.args.shelf.now c.from_residual-in_err-stamp.result c.in_err-stamp.field-0.0 (p.1 ∙ ap (λ (r : WriteRefusal). Err r) p.2)
 
-pub returns-in_default-clause-kept : goal.returns-in_default-clause-kept
-returns-in_default-clause-kept g c = inl (all_same c.args.shelf.now)
-
 pub returns-clause-kept : goal.returns-clause-kept
 returns-clause-kept g c =
-    subst (λ (n : ℕ). KeepsBy c.args.set.now.commit n c.args.shelf.now c.write_step.new.shelf c.write_step.result) (ap version_units (c.in-Ok.ensures {u = tt})) c.write_step.ensures.kept
+    subst (λ (n : ℕ). KeepsBy c.args.set.now.commit n c.args.shelf.now c.write_step.new.shelf c.write_step.result) (ap version_units (c.new_put-version.ensures)) c.write_step.ensures.kept
 
 -- ---- which gates fail
 
@@ -252,9 +222,6 @@ returns-in_err-check_put-clause-fails g c = by_none c.from_residual.result c.arg
 
 pub returns-in_err-stamp-clause-fails : goal.returns-in_err-stamp-clause-fails
 returns-in_err-stamp-clause-fails g c = by_none c.from_residual-in_err-stamp.result c.args.shelf.now c.args.shelf.now (none_still c.args.shelf.now c.args.shelf.now refl)
-
-pub returns-in_default-clause-fails : goal.returns-in_default-clause-fails
-returns-in_default-clause-fails g c = inl (none_still c.args.shelf.now c.args.shelf.now refl)
 
 pub returns-clause-fails : goal.returns-clause-fails
 returns-clause-fails g c = c.write_step.ensures.fails

@@ -5,7 +5,7 @@ use Rattle.line_proto.specs.declared.command.Command.{Command}
 use Rattle.line_proto.specs.Lines.{line_limit, IsCommandLine, IsInRange, IsPutToData}
 use Rattle.line_proto.specs.Reading.{IsWord, IsPutCommand, IsPutFront}
 use Rattle.line_proto.proofs.Words.{line_of_digest, line_of_put, line_of_alone, read_in_range}
-use Rattle.line_proto.proofs.read.read_command.Goals as goal
+use Rattle.line_proto.proofs.read.read_command_in.Goals as goal
 
 -- what stands behind `put ` is read as the line is
 put_read : {E : Type 0} (line word text : List ℕ) (read : Result (Option Command) E) → length line ≤ line_limit → (line ≡ word ++ 32 ∷ text) × IsWord word → word ≡ codes "put"
