@@ -3,6 +3,7 @@ use Rattle.std.specs.Prelude.{◌≢◌, Option, Some, Result, Ok, Err, IfErr, I
 use Rattle.std.specs.List.{AllByRecursion}
 use Rattle.std.proofs.lemmas.Bool.{ne_eqb}
 use Rattle.std.proofs.lemmas.Result.{err_from_is_err_and}
+use Rattle.rec_format.specs.Entries.{Names}
 use Rattle.rec_format.specs.declared.version.Digest.{Digest}
 use Rattle.rec_format.specs.declared.entry.Entry.{Entry}
 use Rattle.model_device.specs.Book.{first_block}
@@ -68,7 +69,8 @@ append-requires-clause-size g c =
     let lies = lies_found r.0 c.args.digest.now c.args.sprig.now c.args.shelf.now r.1 r.3 c.in-Some.entry (sym c.find.ensures.value ∙ c.in-Some.is) in
     let bounds = size_bounds c.args.shelf.now.geometry c.geometry.ensures.whole.geometry in
     let named = (c.in_ok-version.ensures {u = tt}).names in
-    omega (arith, lies.lies.within, bounds.1, named.units)
+    let lent = ap version_units c.lent.ensures in
+    omega (arith, lies.lies.within, bounds.1, named.units, lent)
 
 pub append-requires-clause-prior : goal.append-requires-clause-prior
 append-requires-clause-prior g c =
@@ -117,6 +119,7 @@ returns-in-Ok-clause-makes g c setup s is stand =
     let mid = c.read_for.new.shelf in
     let found : entry_of digest c.args.sprig.now.entries ≡ Some e = sym c.find.ensures.value ∙ c.in-Some.is in
     let got = c.in_ok-version.ensures {u = tt} in
+    let names = subst (Names e) (sym c.lent.ensures) got.names in
     let disk = g.met.D.Disk.is_disk mid.disk in
     let place : Place = c.place_of_entry-place.result in
     let live = live_at view setup digest c.args.block c.args.sprig.now old s stand e found place c.place_of_entry-place.ensures in
@@ -125,14 +128,14 @@ returns-in-Ok-clause-makes g c setup s is stand =
     let stands = stand_read view setup digest c.args.block c.args.sprig.now old s stand e found c.if-entry-block.false mid got.same got.disk disk in
     let takes = c.in-Ok.ensures.appended setup s (setup_read setup old mid got.same is) stands.shelf_stands.stands
     (prior_at view setup digest c.args.block c.args.sprig.now old s stand e found place c.place_of_entry-place.ensures)
-    (copy_is_read view setup digest c.args.block c.args.sprig.now old s stand e found c.in_ok-version.version got.names) in
+    (copy_is_read view setup digest c.args.block c.args.sprig.now old s stand e found c.lent.result names) in
     let replaces = replaced_by c.entry_at.result (moved_to c.in-Ok.new.block c.in-Ok.new.unit e) c.args.sprig.now c.replace.new.self c.entry_at.ensures c.replace.ensures in (
       happened true,
       refl,
       makes_moved view setup digest c.args.block c.args.sprig.now old s stand e found c.if-entry-block.false mid got.same got.disk disk
-          (fits_here view setup digest c.args.block c.args.sprig.now old s stand e found is) c.in_ok-version.version got.names (got.asked setup s is stand.shelf_stands.stands)
+          (fits_here view setup digest c.args.block c.args.sprig.now old s stand e found is) c.lent.result names (got.asked setup s is stand.shelf_stands.stands)
           c.append.new.self c.append.ensures.later.count c.in-Ok.new c.in-Ok.ensures.place.0 takes c.replace.new.self replaces
-          (λ honest placed. got.written honest setup s shown.version stand.shelf_stands.stands placed live version shown.names),
+          (λ honest placed. c.lent.ensures ∙ got.written honest setup s shown.version stand.shelf_stands.stands placed live version shown.names),
     )
 
 pub returns-in-Ok-clause-later : goal.returns-in-Ok-clause-later
@@ -147,6 +150,7 @@ returns-clause-makes g c setup s is stand =
     let mid = c.read_for.new.shelf in
     let found : entry_of digest c.args.sprig.now.entries ≡ Some e = sym c.find.ensures.value ∙ c.in-Some.is in
     let got = c.in_ok-version.ensures {u = tt} in
+    let names = subst (Names e) (sym c.lent.ensures) got.names in
     let disk = g.met.D.Disk.is_disk mid.disk in
     let stands = stand_read view setup digest c.args.block c.args.sprig.now old s stand e found c.if-entry-block.false mid got.same got.disk disk in
     let told = c.in-Err.ensures.causes setup s (setup_read setup old mid got.same is) stands.shelf_stands.stands in
@@ -154,7 +158,7 @@ returns-clause-makes g c setup s is stand =
     × StepMakes view setup (part_of setup digest) (move_call digest c.args.block) answer old s c.args.sprig.now c.append.new.self)
     (sym c.append_refusal.ensures)
     (makes_unappended view setup digest c.args.block c.args.sprig.now old s stand e found c.if-entry-block.false mid got.same got.disk disk
-    (fits_here view setup digest c.args.block c.args.sprig.now old s stand e found is) c.in_ok-version.version got.names (got.asked setup s is stand.shelf_stands.stands)
+    (fits_here view setup digest c.args.block c.args.sprig.now old s stand e found is) c.lent.result names (got.asked setup s is stand.shelf_stands.stands)
     c.append.new.self c.append.ensures.later.count c.in-Err.refusal told.0 told.1 (λ fault. c.append.ensures.cause (c.in-Err.is ∙ ap (λ (r : PutRefusal). Err r) fault)) told.2)
 
 pub returns-clause-later : goal.returns-clause-later
@@ -300,12 +304,13 @@ returns-clause-left g c =
     let mid = c.read_for.new.shelf in
     let found : entry_of digest c.args.sprig.now.entries ≡ Some e = sym c.find.ensures.value ∙ c.in-Some.is in
     let got = c.in_ok-version.ensures {u = tt} in
+    let names = subst (Names e) (sym c.lent.ensures) got.names in
     let disk = g.met.D.Disk.is_disk mid.disk in
     let stands = stand_read view r.0 digest c.args.block c.args.sprig.now old r.1 r.3 e found c.if-entry-block.false mid got.same got.disk disk in
     let told = c.in-Err.ensures.causes r.0 r.1 (setup_read r.0 old mid got.same r.2) stands.shelf_stands.stands in
     subst (IsShelfLeft view old c.append.new.self) (sym c.append_refusal.ensures)
     (left_unappended view r.0 digest c.args.block c.args.sprig.now old r.1 r.3 e found c.if-entry-block.false mid got.same got.disk disk
-    (fits_here view r.0 digest c.args.block c.args.sprig.now old r.1 r.3 e found r.2) c.in_ok-version.version got.names (got.asked r.0 r.1 r.2 r.3.shelf_stands.stands)
+    (fits_here view r.0 digest c.args.block c.args.sprig.now old r.1 r.3 e found r.2) c.lent.result names (got.asked r.0 r.1 r.2 r.3.shelf_stands.stands)
     c.append.new.self c.append.ensures.later.count c.in-Err.refusal told.0 c.in-Err.ensures.refused)
 
 -- ---- what is copied
@@ -326,11 +331,11 @@ returns-in-Ok-clause-copied g c moved x found_x =
     let to : Entry = moved_to c.in-Ok.new.block c.in-Ok.new.unit e in
     let replaces = replaced_by c.entry_at.result to c.args.sprig.now c.replace.new.self c.entry_at.ensures c.replace.ensures in
     let copies : CopiesRecord view digest e to old c.append.new.self = record {
-      version = c.in_ok-version.version;
-      from_disk = λ tells none. subst (λ (p : Place). IsRead e (copy_bytes old.geometry p (view old.disk).seen) c.in_ok-version.version) place_is
-          (got.read tells (subst (λ (p : Place). AllByRecursion (λ b. b.block ≢ p.block) old.buffers) (sym place_is) none));
+      version = c.lent.result;
+      from_disk = λ tells none. subst (λ (p : Place). IsRead e (copy_bytes old.geometry p (view old.disk).seen) c.lent.result) place_is
+          (subst (IsRead e (copy_bytes old.geometry place (view old.disk).seen)) (sym c.lent.ensures) (got.read tells (subst (λ (p : Place). AllByRecursion (λ b. b.block ≢ p.block) old.buffers) (sym place_is) none)));
       from_memory = λ b v has at record_there names.
-          got.copied b v has (at ∙ sym (ap (λ (p : Place). p.block) place_is))
+          c.lent.ensures ∙ got.copied b v has (at ∙ sym (ap (λ (p : Place). p.block) place_is))
           (subst (λ (p : Place). HasRecord b p.unit e.digest v) (sym place_is) (subst (λ (d : Digest). HasRecord b e.unit d v) named record_there)) names;
       lies = let l = c.in-Ok.ensures.lies in record { buffer = l.buffer; is_there = l.is_there; of_stream = l.of_stream; block = l.block; has = l.has };
     } in
@@ -373,7 +378,7 @@ pub returns-in-Ok-clause-kept : goal.returns-in-Ok-clause-kept
 returns-in-Ok-clause-kept g c =
     let got = c.in_ok-version.ensures {u = tt} in
     keeps_moved (entry_of c.args.digest.now c.args.sprig.now.entries) c.in-Some.entry (sym c.find.ensures.value ∙ c.in-Some.is) c.args.shelf.now c.read_for.new.shelf got.same
-    c.append.new.self (version_units c.in_ok-version.version) got.names.units c.in-Ok.ensures.first
+    c.append.new.self (version_units c.lent.result) (got.names.units ∙ ap version_units (sym c.lent.ensures)) c.in-Ok.ensures.first
 
 pub returns-clause-kept : goal.returns-clause-kept
 returns-clause-kept g c =
