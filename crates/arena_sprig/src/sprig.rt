@@ -15,8 +15,8 @@ pub const BOXED: u64 = size_of::<Tree>() as u64;
 
 /// The entries of one sprig, its high time, in milliseconds, and the tally of its entries.
 ///
-/// It has two words, so it is moved at little cost. What else it needs lies in a box, which no sprig has while no room in it was
-/// ever asked for.
+/// It has three words, so it is moved at little cost. What else it needs lies in a box, which no sprig has while no room in it
+/// was ever asked for.
 #[derive(Drop)]
 pub struct Sprig {
     tree: Option<Box<Tree>>,
