@@ -162,10 +162,11 @@ impl<D: Disk> Node<D> {
     }
 }
 
-// Carries out a command on a digest of the device.
+// Carries out a command on a digest of the device. What is read of a payload takes the room.
 fn act_on<D: Disk>(
     shard: &mut Shard<D>,
     alloc: Global,
+    room: &mut Vec<u8>,
     command: &Command,
     digest: &Digest,
     now: u64,
@@ -184,7 +185,7 @@ fn act_on<D: Disk>(
             payload,
             ..
         } => write_reply(shard.put(alloc, digest, *ttl, payload.as_slice(), *expect, now)),
-        Command::Get(_) => read_reply(shard.get(alloc, digest, now)),
+        Command::Get(_) => read_reply(shard.get_in(alloc, room, digest, now)),
         Command::Meta(_) => known_reply(shard.meta(digest, now)),
         Command::Del(_) => delete_reply(shard.delete(alloc, digest, now)),
         Command::Bury(_) => write_reply(shard.bury(alloc, digest, now)),
@@ -202,6 +203,10 @@ impl<D: Disk> Store for Node<D> {
     /// A command that is refused leaves its device as the device's call does, and every other as it was. Of a command over all devices those
     /// before the one that is refused have done theirs, what that one did before stands, and those behind it are as before.
     fn act(&mut self, alloc: Global, command: &Command, now: u64) -> Reply {
+        self.act_in(alloc, &mut Vec::new(alloc), command, now)
+    }
+
+    fn act_in(&mut self, alloc: Global, room: &mut Vec<u8>, command: &Command, now: u64) -> Reply {
         if self.refused.is_some() {
             return Reply::Halted;
         }
@@ -210,6 +215,7 @@ impl<D: Disk> Store for Node<D> {
             return act_on(
                 &mut self.shards[usize::from(device)],
                 alloc,
+                room,
                 command,
                 digest,
                 now,

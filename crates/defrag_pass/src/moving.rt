@@ -133,7 +133,8 @@ fn read_for<D: Disk>(
         Ok(()) => {}
         Err(refusal) => return Err(append_refusal(refusal)),
     }
-    match shelf.read(alloc, place, entry) {
+    let read = shelf.read(alloc, &mut Vec::new(alloc), place, entry);
+    match read {
         Ok(version) => Ok(version),
         Err(refusal) => Err(read_refusal(refusal)),
     }

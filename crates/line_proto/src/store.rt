@@ -24,6 +24,18 @@ pub trait Store: Drop {
         requires goes_on { command.now ≢ Command.Quit }
         ensures { acts self.old command.now now result self.new };
 
+    /// Answers a command as `act` does. What is read of a payload takes the room that is lent, where the store has a use for it, so that no
+    /// memory is asked for where that is enough.
+    fn act_in(&mut self, alloc: Global, room: &mut Vec<u8>, command: &Command, now: u64) -> Reply
+        requires now { now ≤ 2 ^ 61 }
+        requires command { IsInRange command.now }
+        requires goes_on { command.now ≢ Command.Quit }
+        ensures { acts self.old command.now now result self.new }
+    {
+        let _ = room;
+        self.act(alloc, command, now)
+    }
+
     /// Does what is due after a line, whatever its reply.
     fn tend(&mut self, alloc: Global)
         ensures { tends self.old self.new };

@@ -53,7 +53,7 @@ impl<D: Disk> Live<D> {
             expect,
             now,
         };
-        self.turn(alloc, rt, pass, part, &put)
+        self.turn(alloc, &mut Vec::new(alloc), rt, pass, part, &put)
     }
 
     /// The record that is seen of a digest at `now`, in milliseconds, as `Shard::get` answers it. It is one event of the device, and leaves the
@@ -73,8 +73,29 @@ impl<D: Disk> Live<D> {
         ensures numbers { KeepsNumbers pass.old pass.new }
         ensures once { AnswersOnce D.view (opening_at self.now) (view pass.old) (view pass.new) (get_call digest.now now) (read_answer result) }
     {
+        self.get_in(alloc, &mut Vec::new(alloc), rt, pass, digest, now)
+    }
+
+    /// The record that is seen of a digest at `now`, in milliseconds, as `get` answers it. Its payload takes the room that is lent, so memory is
+    /// asked for only where that is less.
+    pub fn get_in<R: Wait>(
+        &self,
+        alloc: Global,
+        room: &mut Vec<u8>,
+        rt: &R,
+        pass: &mut LivePass<D>,
+        digest: &Digest,
+        now: u64,
+    ) -> Result<Option<Version>, ReadRefusal>
+        requires pass { IsPassAt self.now pass.old }
+        requires own { IsOwn (opening_at self.now) digest.now }
+        requires now { now ≤ 2 ^ 61 }
+        ensures pass { IsPassAt self.now pass.new }
+        ensures numbers { KeepsNumbers pass.old pass.new }
+        ensures once { AnswersOnce D.view (opening_at self.now) (view pass.old) (view pass.new) (get_call digest.now now) (read_answer result) }
+    {
         let part = self.part_of(digest);
-        self.turn(alloc, rt, pass, part, &Get { digest, now })
+        self.turn(alloc, room, rt, pass, part, &Get { digest, now })
     }
 
     /// Deletes a record, as `Shard::delete` does, and answers whether one was seen at `now`, in milliseconds. It is one event of the device; with
@@ -96,7 +117,14 @@ impl<D: Disk> Live<D> {
         ensures flushed { OnOk result (LastIsFlushed (opening_at self.now) (seen_by (view pass.new))) }
     {
         let part = self.part_of(digest);
-        self.turn(alloc, rt, pass, part, &Delete { digest, now })
+        self.turn(
+            alloc,
+            &mut Vec::new(alloc),
+            rt,
+            pass,
+            part,
+            &Delete { digest, now },
+        )
     }
 
     /// Deletes a digest durably, as `Shard::bury` does, and answers the stamp of its tombstone. It is one event of the device; with commit on the
@@ -118,6 +146,13 @@ impl<D: Disk> Live<D> {
         ensures flushed { OnOk result (NewestIsFlushed (opening_at self.now) (seen_by (view pass.new)) digest.now) }
     {
         let part = self.part_of(digest);
-        self.turn(alloc, rt, pass, part, &Bury { digest, now })
+        self.turn(
+            alloc,
+            &mut Vec::new(alloc),
+            rt,
+            pass,
+            part,
+            &Bury { digest, now },
+        )
     }
 }

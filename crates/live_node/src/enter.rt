@@ -22,6 +22,7 @@ impl<D: Disk> Live<D> {
     pub(crate) fn enter<C: Step<D>>(
         &self,
         alloc: Global,
+        room: &mut Vec<u8>,
         pass: &mut LivePass<D>,
         mut hub: Hub<D>,
         sprig: &mut Sprig,
@@ -41,7 +42,7 @@ impl<D: Disk> Live<D> {
         ensures sprig { PartFits (opening_at self.now) (seen_by (view pass.new)) part sprig.new }
     {
         let before = sprig.tally();
-        let answer = call.step(alloc, sprig, &mut *hub.shelf, &self.set);
+        let answer = call.step(alloc, room, sprig, &mut *hub.shelf, &self.set);
         hub.tally = hub.tally.minus(before).plus(sprig.tally());
         self.give_step(pass, hub, sprig, part, call, &answer);
         answer

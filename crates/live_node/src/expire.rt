@@ -53,6 +53,7 @@ impl<'a, D: Disk> Step<D> for Expire<'a> {
     fn step(
         &self,
         alloc: Global,
+        _room: &mut Vec<u8>,
         sprig: &mut Sprig,
         shelf: &mut Shelf<D>,
         set: &Settings,
@@ -197,7 +198,7 @@ impl<D: Disk> Live<D> {
         let _ = last;
         let hub = self.take_hub(rt, pass);
         let expire = Expire { digest, now };
-        self.enter(alloc, pass, hub, sprig, part, &expire)
+        self.enter(alloc, &mut Vec::new(alloc), pass, hub, sprig, part, &expire)
     }
 }
 

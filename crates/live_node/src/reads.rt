@@ -4,7 +4,7 @@ use arena_sprig::Sprig;
 use block_shelf::{ReadRefusal, Shelf};
 use disk_model::Disk;
 use rec_format::{Digest, Version};
-use shard_core::{Settings, get_step};
+use shard_core::{Settings, get_step_in};
 use std::alloc::Global;
 
 #[derive(Drop)]
@@ -36,11 +36,12 @@ impl<'a, D: Disk> Step<D> for Get<'a> {
     fn step(
         &self,
         alloc: Global,
+        room: &mut Vec<u8>,
         sprig: &mut Sprig,
         shelf: &mut Shelf<D>,
         set: &Settings,
     ) -> Result<Option<Version>, ReadRefusal> {
-        get_step(alloc, sprig, shelf, set, self.digest, self.now)
+        get_step_in(alloc, room, sprig, shelf, set, self.digest, self.now)
     }
 
     ghost named = { λ c setup. refl };

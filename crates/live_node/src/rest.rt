@@ -161,7 +161,9 @@ impl<D: Disk> Live<D> {
     {
         self.known();
         let hub = self.take_hub(rt, pass);
-        match self.enter(alloc, pass, hub, sprig, part, &Move { digest, block }) {
+        let moving = Move { digest, block };
+        let moved = self.enter(alloc, &mut Vec::new(alloc), pass, hub, sprig, part, &moving);
+        match moved {
             Ok(was_there) => Ok(was_there),
             Err(refusal) => Err(cause_of(refusal)),
         }

@@ -37,9 +37,11 @@ pub(crate) trait Step<D: Disk>: EventCall {
     // The part that the call names.
     ghost part: { Self → Setup → ℕ };
 
+    // What is read of a payload takes the room.
     fn step(
         &self,
         alloc: Global,
+        room: &mut Vec<u8>,
         sprig: &mut Sprig,
         shelf: &mut Shelf<D>,
         set: &Settings,

@@ -100,7 +100,15 @@ impl<D: Disk> Live<D> {
             self.give_part(pass, sprig, part);
             return Err(TryRefusal::Again { slot: self.parts() });
         };
-        let answer = self.enter(alloc, pass, hub, &mut sprig, part, &Get { digest, now });
+        let answer = self.enter(
+            alloc,
+            &mut Vec::new(alloc),
+            pass,
+            hub,
+            &mut sprig,
+            part,
+            &Get { digest, now },
+        );
         self.give_part(pass, sprig, part);
         tried(answer)
     }

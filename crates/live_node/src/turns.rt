@@ -88,10 +88,11 @@ impl<D: Disk> Live<D> {
         self.table.give_part(pass, sprig);
     }
 
-    // A call over the sprig of its part and the shelf: it is one event.
+    // A call over the sprig of its part and the shelf: it is one event. What it reads of a payload takes the room.
     pub(crate) fn turn<R: Wait, C: Step<D>>(
         &self,
         alloc: Global,
+        room: &mut Vec<u8>,
         rt: &R,
         pass: &mut LivePass<D>,
         part: u32,
@@ -108,7 +109,7 @@ impl<D: Disk> Live<D> {
     {
         let mut sprig = self.take_part(rt, pass, part);
         let hub = self.take_hub(rt, pass);
-        let answer = self.enter(alloc, pass, hub, &mut sprig, part, call);
+        let answer = self.enter(alloc, room, pass, hub, &mut sprig, part, call);
         self.give_part(pass, sprig, part);
         answer
     }

@@ -54,6 +54,7 @@ impl<'a, D: Disk> Step<D> for Move<'a> {
     fn step(
         &self,
         alloc: Global,
+        _room: &mut Vec<u8>,
         sprig: &mut Sprig,
         shelf: &mut Shelf<D>,
         set: &Settings,
@@ -92,7 +93,14 @@ impl<D: Disk> Live<D> {
         ensures moves { MovesRecord D.view (opening_at self.now) (view pass.old) (view pass.new) digest.now block result }
     {
         let part = self.part_of(digest);
-        self.turn(alloc, rt, pass, part, &Move { digest, block })
+        self.turn(
+            alloc,
+            &mut Vec::new(alloc),
+            rt,
+            pass,
+            part,
+            &Move { digest, block },
+        )
     }
 
     /// Whether the digest is one of the device.

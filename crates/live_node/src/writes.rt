@@ -39,6 +39,7 @@ impl<'a, D: Disk> Step<D> for Put<'a> {
     fn step(
         &self,
         alloc: Global,
+        _room: &mut Vec<u8>,
         sprig: &mut Sprig,
         shelf: &mut Shelf<D>,
         set: &Settings,
@@ -88,6 +89,7 @@ impl<'a, D: Disk> Step<D> for Delete<'a> {
     fn step(
         &self,
         alloc: Global,
+        _room: &mut Vec<u8>,
         sprig: &mut Sprig,
         shelf: &mut Shelf<D>,
         set: &Settings,
@@ -127,6 +129,7 @@ impl<'a, D: Disk> Step<D> for Bury<'a> {
     fn step(
         &self,
         alloc: Global,
+        _room: &mut Vec<u8>,
         sprig: &mut Sprig,
         shelf: &mut Shelf<D>,
         set: &Settings,

@@ -16,9 +16,10 @@ use rec_format::Digest;
 use std::alloc::Global;
 use std::sync::Wait;
 
-// Carries out a command on a digest of the device.
+// Carries out a command on a digest of the device. What is read of a payload takes the room.
 pub(crate) fn act_on<D: Disk, R: Wait>(
     alloc: Global,
+    room: &mut Vec<u8>,
     rt: &R,
     live: &Live<D>,
     pass: &mut LivePass<D>,
@@ -52,7 +53,7 @@ pub(crate) fn act_on<D: Disk, R: Wait>(
             *expect,
             now,
         )),
-        Command::Get(_) => read_reply(live.get(alloc, rt, pass, digest, now)),
+        Command::Get(_) => read_reply(live.get_in(alloc, room, rt, pass, digest, now)),
         Command::Meta(_) => known_reply(live.meta(rt, pass, digest, now)),
         Command::Del(_) => delete_reply(live.delete(alloc, rt, pass, digest, now)),
         Command::Bury(_) => write_reply(live.bury(alloc, rt, pass, digest, now)),

@@ -93,10 +93,15 @@ impl<'a, D: Disk, R: Wait> Store for LiveStore<'a, D, R> {
     ghost tends = { λ old new. new ≡ old };
 
     fn act(&mut self, alloc: Global, command: &Command, now: u64) -> Reply {
+        self.act_in(alloc, &mut Vec::new(alloc), command, now)
+    }
+
+    fn act_in(&mut self, alloc: Global, room: &mut Vec<u8>, command: &Command, now: u64) -> Reply {
         if let Some(digest) = digest_of(command) {
             let device = usize::from(device_of(digest, self.lives.len() as u16));
             return act_on(
                 alloc,
+                room,
                 self.rt,
                 &self.lives[device],
                 &mut self.passes[device],

@@ -13,10 +13,11 @@ use std::alloc::Global;
 
 const LATEST: u64 = 1 << 61;
 
-/// How much room for the data of a put is kept for later ones.
+/// How much room for the payload of a put or a get is kept for later ones.
 const KEPT_ROOM: usize = 262_144;
 
-/// The reply to a line, which is none where it is too long, and whether the line was `quit`. The data of a put stand in the room meanwhile.
+/// The reply to a line, which is none where it is too long, and whether the line was `quit`. The data of a put stand in the room meanwhile,
+/// and what is read of a payload takes it.
 fn answer<T: Store, C: Clock>(
     alloc: Global,
     store: &mut T,
@@ -39,20 +40,31 @@ fn answer<T: Store, C: Clock>(
             if let Command::Quit = command {
                 return (Reply::Bye, true);
             }
-            let reply = store.act(alloc, &command, now);
+            let reply = store.act_in(alloc, room, &command, now);
             take_back(command, room);
             (reply, false)
         }
     }
 }
 
-/// The room that the data of a put took becomes room for later data, where it is more, and isn't more than is kept.
+/// The room that a payload took becomes room for later ones, where it is more, and isn't more than is kept.
+fn keep_room(data: Vec<u8>, room: &mut Vec<u8>) {
+    if room.capacity() < data.capacity() && data.capacity() <= KEPT_ROOM {
+        *room = data;
+    }
+}
+
+/// Keeps the room of the data of a put.
 fn take_back(command: Command, room: &mut Vec<u8>) {
     if let Command::Put { payload, .. } = command {
-        let data = payload.into_vec();
-        if room.capacity() < data.capacity() && data.capacity() <= KEPT_ROOM {
-            *room = data;
-        }
+        keep_room(payload.into_vec(), room);
+    }
+}
+
+/// Keeps the room of a payload that was read.
+fn take_back_read(reply: Reply, room: &mut Vec<u8>) {
+    if let Reply::Val { payload, .. } = reply {
+        keep_room(payload.into_vec(), room);
     }
 }
 
@@ -87,6 +99,7 @@ pub fn turn<T: Store, C: Clock>(
         return Some(Stop::Halted);
     }
     let added = replies.add(alloc, &reply);
+    take_back_read(reply, room);
     tend_unless(alloc, store, quits);
     if added.is_err() {
         return Some(Stop::Memory);

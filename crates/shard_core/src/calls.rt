@@ -27,7 +27,7 @@ ghost use Rattle.shard_core.specs.Calls.{IsRefusedWrite, Makes, GetsStored, writ
 ghost use Rattle.shard_core.specs.Failing.{FailsBy};
 
 use crate::delete::{bury_step, delete_step};
-use crate::get::{get_step, meta_step};
+use crate::get::{get_step_in, meta_step};
 use crate::put::put_step;
 use crate::{Meta, ReadRefusal, Shard, WriteRefusal};
 use disk_model::Disk;
@@ -90,7 +90,7 @@ impl<D: Disk> Shard<D> {
     /// At `Ok` the version that is seen of the digest, none where there is no put or it is expired at `now`, in milliseconds; nothing is
     /// written, and a crash leaves what it left before. On a sound device it is as it was put, and never `Damaged`; so it is on any
     /// device where the block has a write buffer of the clients' stream, or such a flushed buffer is kept. A refusal too leaves all as it
-    /// was, but the disk, which was only read. `get_step` over the digest's sprig.
+    /// was, but the disk, which was only read.
     pub fn get(
         &mut self,
         alloc: Global,
@@ -119,9 +119,44 @@ impl<D: Disk> Shard<D> {
         ensures disk { OnlyRead (D.view self.old.shelf.disk) (D.view self.new.shelf.disk) }
         ensures shape { SameSetup self.old self.new }
     {
+        self.get_in(alloc, &mut Vec::new(alloc), digest, now)
+    }
+
+    /// At `Ok` the version that is seen of the digest, none where there is no put or it is expired at `now`, as `get` answers it. Its payload
+    /// takes the room that is lent, so memory is asked for only where that is less. `get_step_in` over the digest's sprig.
+    pub fn get_in(
+        &mut self,
+        alloc: Global,
+        room: &mut Vec<u8>,
+        digest: &Digest,
+        now: u64,
+    ) -> Result<Option<Version>, ReadRefusal>
+        requires named { device_number self.old.shelf.geometry.devices digest.now ≡ self.old.shelf.geometry.device }
+        requires now { now ≤ 2 ^ 61 }
+        ensures whole { IsShelf D.view self.old.shelf × IsWhole self.old }
+        ensures makes { (s : State) → Agrees self.old s → Makes D.view (get_call digest.now now) (read_answer result) self.old s self.new }
+
+        // A record whose block has a write buffer, or whose flushed buffer is kept, is read without a call of the disk.
+        ensures in_memory { (e : Entry) (b : BufferState) → held (setup_of self.old) digest.now self.old.sprigs ≡ Some e → Contains (in_memory self.old.shelf) b → b.block ≡ e.block
+            → (self.new ≡ self.old) × IfErr result (λ refusal. refusal ≡ ReadRefusal.Memory) }
+
+        // From a buffer of the clients' stream it is what was put. Where no buffer that isn't flushed has the block, it is what stands at its
+        // place, on a disk that tells its bytes.
+        ensures stored { GetsStored D.view self.old digest.now now result }
+
+        // Over an honest disk nothing is damaged.
+        ensures undamaged { IsHonest (D.view self.old.shelf.disk) → (s : State) → Agrees self.old s → IsPlaced D.view self.old.shelf s → IfErr result IsUndamaged }
+        ensures sure { StaysSure D.view self.old.shelf self.new.shelf }
+        ensures same { self.new ≡ record self.old { shelf = record self.old.shelf { disk = self.new.shelf.disk } } }
+        ensures kept { KeepsAll self.old.shelf self.new.shelf }
+        ensures few { KeepsFew self.old }
+        ensures disk { OnlyRead (D.view self.old.shelf.disk) (D.view self.new.shelf.disk) }
+        ensures shape { SameSetup self.old self.new }
+    {
         let part = self.part_of(digest);
-        get_step(
+        get_step_in(
             alloc,
+            room,
             &mut self.sprigs[part],
             &mut self.shelf,
             &self.set,

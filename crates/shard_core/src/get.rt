@@ -71,11 +71,48 @@ pub fn get_step<D: Disk>(
     ensures sprig { sprig.new ≡ sprig.old }
     ensures shelf { shelf.new ≡ record shelf.old { disk = shelf.new.disk } }
 {
+    get_step_in(alloc, &mut Vec::new(alloc), sprig, shelf, set, digest, now)
+}
+
+/// At `Ok` the version that is seen of the digest, none where there is no put or it is expired at `now`, as `get_step` answers it. Its payload
+/// takes the room that is lent, so memory is asked for only where that is less.
+pub fn get_step_in<D: Disk>(
+    alloc: Global,
+    room: &mut Vec<u8>,
+    sprig: &mut Sprig,
+    shelf: &mut Shelf<D>,
+    set: &Settings,
+    digest: &Digest,
+    now: u64,
+) -> Result<Option<Version>, ReadRefusal>
+    requires named { device_number shelf.old.geometry.devices digest.now ≡ shelf.old.geometry.device }
+    requires now { now ≤ 2 ^ 61 }
+    requires settings { IsSettings set.now }
+    requires stand { (setup : Setup) × (s : State) × IsSetupBy set.now setup shelf.old × StandTogether setup (part_of setup digest.now) sprig.old shelf.old s }
+    ensures makes { (setup : Setup) (s : State) → IsSetupBy set.now setup shelf.old → StandTogether setup (part_of setup digest.now) sprig.old shelf.old s
+        → StepMakes D.view setup (part_of setup digest.now) (get_call digest.now now) (read_answer result) shelf.old s sprig.new shelf.new }
+
+    // A record whose block has a write buffer, or whose flushed buffer is kept, is read without a call of the disk.
+    ensures in_memory { (e : Entry) (b : BufferState) → entry_of digest.now sprig.old.entries ≡ Some e → Contains (in_memory shelf.old) b → b.block ≡ e.block
+        → (shelf.new ≡ shelf.old) × IfErr result (λ refusal. refusal ≡ ReadRefusal.Memory) }
+
+    // From a buffer of the clients' stream it is what was put. Where no buffer that isn't flushed has the block, it is what stands at its
+    // place, on a disk that tells its bytes.
+    ensures stored { (setup : Setup) → IsSetupBy set.now setup shelf.old
+        → ReadsStored D.view (StandTogether setup (part_of setup digest.now) sprig.old shelf.old) (entry_of digest.now sprig.old.entries) shelf.old digest.now now result }
+
+    // Over an honest disk nothing is damaged.
+    ensures undamaged { IsHonest (D.view shelf.old.disk) → (setup : Setup) (s : State) → IsSetupBy set.now setup shelf.old
+        → StandTogether setup (part_of setup digest.now) sprig.old shelf.old s → IsPlaced D.view shelf.old s → IfErr result IsUndamaged }
+    ensures disk { OnlyRead (D.view shelf.old.disk) (D.view shelf.new.disk) }
+    ensures sprig { sprig.new ≡ sprig.old }
+    ensures shelf { shelf.new ≡ record shelf.old { disk = shelf.new.disk } }
+{
     let found = sprig.find(digest);
     let Some(entry) = seen(found.as_ref(), now) else {
         return Ok(None);
     };
-    match shelf.read(alloc, place_of_entry(entry), entry) {
+    match shelf.read(alloc, room, place_of_entry(entry), entry) {
         Ok(version) => Ok(Some(version)),
         Err(refusal) => Err(refusal),
     }

@@ -32,7 +32,7 @@ pub use delete::{bury_step, delete_step};
 pub use expire::{expire_step, next_expired};
 pub use flush::{flush_low, flush_next, flush_shelf};
 pub use format::format_disk;
-pub use get::{Meta, get_step, meta_step};
+pub use get::{Meta, get_step, get_step_in, meta_step};
 pub use heal::heal_shelf;
 pub use put::put_step;
 pub use refusals::{Damage, DefragCause, DefragRefusal, ExpireRefusal, WriteRefusal};

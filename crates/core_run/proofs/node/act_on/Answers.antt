@@ -47,14 +47,14 @@ pub returns-in-Get-clause-replies : goal.returns-in-Get-clause-replies
 returns-in-Get-clause-replies g c =
     let d = g.D.Disk in
     let same : c.args.digest.now ≡ c.in-Get.field-0 = one_digest c.args.digest.now c.in-Get.field-0 (sym c.requires.on ∙ ap digest_of c.in-Get.is) in
-    subst (λ (command : Command). RepliesOn d.view c.args.shard.now command c.args.now c.read_reply.result c.get.new.self) (sym c.in-Get.is)
-    (subst (λ (digest : Digest). GetsOn d.view c.args.shard.now digest c.args.now c.read_reply.result c.get.new.self) same
+    subst (λ (command : Command). RepliesOn d.view c.args.shard.now command c.args.now c.read_reply.result c.get_in.new.self) (sym c.in-Get.is)
+    (subst (λ (digest : Digest). GetsOn d.view c.args.shard.now digest c.args.now c.read_reply.result c.get_in.new.self) same
     (record {
-      got = c.get.result;
+      got = c.get_in.result;
       reply_is = c.read_reply.ensures;
-      goes_on = λ h. read_goes_on c.get.result (sym c.read_reply.ensures ∙ h);
-      makes = c.get.ensures.makes;
-      stored = c.get.ensures.stored;
-      whole = c.get.ensures.whole;
+      goes_on = λ h. read_goes_on c.get_in.result (sym c.read_reply.ensures ∙ h);
+      makes = c.get_in.ensures.makes;
+      stored = c.get_in.ensures.stored;
+      whole = c.get_in.ensures.whole;
       own = c.requires.place;
     }))

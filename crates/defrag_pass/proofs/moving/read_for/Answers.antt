@@ -17,10 +17,10 @@ returns-in-Err-read-clause-written g c honest setup s v stands placed live entry
     subst IsUndamaged (sym c.read_refusal.ensures) (undamaged_for c.in-Err-read.refusal (c.in-Err-read.ensures.written honest setup s v stands placed live entry names))
 
 pub returns-in-Ok-read-clause-kept : goal.returns-in-Ok-read-clause-kept
-returns-in-Ok-read-clause-kept g c setup s v b stands live entry names has at = (c.read.ensures.in_memory setup s v b stands live entry names has at).0
+returns-in-Ok-read-clause-kept g c setup s v b stands live entry names has at = (c.read-read.ensures.in_memory setup s v b stands live entry names has at).0
 
 pub returns-in-Err-read-clause-kept : goal.returns-in-Err-read-clause-kept
-returns-in-Err-read-clause-kept g c setup s v b stands live entry names has at = (c.read.ensures.in_memory setup s v b stands live entry names has at).0
+returns-in-Err-read-clause-kept g c setup s v b stands live entry names has at = (c.read-read.ensures.in_memory setup s v b stands live entry names has at).0
 
 -- ---- what is told, and what is left
 
@@ -48,8 +48,8 @@ returns-in-Err-read-clause-sound g c setup s v b stands live entry names has at 
 
 pub returns-in-Err-read-clause-left : goal.returns-in-Err-read-clause-left
 returns-in-Err-read-clause-left g c =
-    subst (IsShelfLeft g.D.Disk.view c.args.shelf.now c.read.new.self) (sym c.read_refusal.ensures)
-    (left_read g.D.Disk.view c.args.shelf.now c.read.new.self c.read.ensures.same c.read.ensures.disk c.in-Err-read.refusal)
+    subst (IsShelfLeft g.D.Disk.view c.args.shelf.now c.read-read.new.self) (sym c.read_refusal.ensures)
+    (left_read g.D.Disk.view c.args.shelf.now c.read-read.new.self c.read-read.ensures.same c.read-read.ensures.disk c.in-Err-read.refusal)
 
 pub returns-in-Ok-read-clause-read : goal.returns-in-Ok-read-clause-read
 returns-in-Ok-read-clause-read g c tells none = c.in-Ok-read.ensures.read tells none

@@ -15,8 +15,8 @@ use Rattle.core_run.specs.Turns.{FlushesOn, FlushesEach, HealsOn, HealsEach, plu
 use Rattle.core_run.proofs.Commands.{digest_acts, flush_acts, heal_acts, defrag_acts, expire_acts, raid_acts, stat_acts, acts_halted}
 use Rattle.core_run.proofs.Keeping.{few_served, SameEach, all_kept, all_act, node_kept, node_halts, acts_so, same_all, devices_of, device_at, same_at}
 use Rattle.core_run.proofs.Keeping.{same_worked}
-use Rattle.core_run.proofs.node.NodeStore.act.Given.{Over}
-use Rattle.core_run.proofs.node.NodeStore.act.Goals as goal
+use Rattle.core_run.proofs.node.NodeStore.act_in.Given.{Over}
+use Rattle.core_run.proofs.node.NodeStore.act_in.Goals as goal
 
 pub returns-then-is_some : goal.returns-then-is_some
 returns-then-is_some g c =

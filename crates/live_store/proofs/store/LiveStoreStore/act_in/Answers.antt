@@ -13,7 +13,7 @@ use Rattle.live_store.specs.Works.{RepliesOn, Defragments, Expires, EachDevice, 
 use Rattle.live_store.specs.Stores.{Acts, known_by}
 use Rattle.live_store.proofs.Acting.{Stays, calls_one, carries_one, carries_all, numbers_all, seated_all, flushed_stays, healed_stays, defragged_stays, expired_stays}
 use Rattle.live_store.proofs.Pairs.{pairs_length, pair_at, pair_set, pair_then, pairs_same}
-use Rattle.live_store.proofs.store.LiveStoreStore.act.Goals as goal
+use Rattle.live_store.proofs.store.LiveStoreStore.act_in.Goals as goal
 
 pub index_mut-requires : goal.index_mut-requires
 index_mut-requires g c =

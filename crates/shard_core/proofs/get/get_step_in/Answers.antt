@@ -21,7 +21,7 @@ use Rattle.law_steps.specs.Events.{StepMakes}
 use Rattle.shard_core.proofs.Found.{seen_none, seen_some}
 use Rattle.law_steps.proofs.Found.{lies_found}
 use Rattle.shard_core.proofs.Getting.{seen_held, live_is, shown, shown_got, shown_is, shown_copy, shown_err, makes_unseen, makes_read}
-use Rattle.shard_core.proofs.get.get_step.Goals as goal
+use Rattle.shard_core.proofs.get.get_step_in.Goals as goal
 
 pub returns-in_default-clause-makes : goal.returns-in_default-clause-makes
 returns-in_default-clause-makes g c setup s is_setup stand =
