@@ -4,17 +4,13 @@ ghost use Rattle.arena_sprig.specs.Tree.{IsLinked};
 ghost use Rattle.arena_sprig.specs.Growth.{IsLonger, IsGrown};
 
 use crate::NoMemory;
-use crate::links::{LEAF, Link};
+use crate::links::{LEAF, Links};
+use crate::sizes::Sizes;
 use entry_arena::Arena;
 use std::alloc::AllocError;
 
 /// Makes room for `n` entries, stage by stage. Also where memory is wanting on the way each slot has its links.
-pub fn grow(
-    arena: &mut Arena,
-    links: &mut Vec<Link>,
-    sizes: &mut Vec<u32>,
-    n: u32,
-) -> Result<(), NoMemory>
+pub fn grow(arena: &mut Arena, links: &mut Links, sizes: &mut Sizes, n: u32) -> Result<(), NoMemory>
     requires { IsLinked arena.old.slots links.old.items }
     ensures room { OnOk result (n ≤ arena.new.spare) }
     ensures grown { IsGrown arena.old links.old.items arena.new links.new.items }
@@ -30,7 +26,7 @@ pub fn grow(
 }
 
 /// The slots of one stage more. The links and sizes grow first: where memory is wanting for them, the arena is as it was.
-fn add_stage(arena: &mut Arena, links: &mut Vec<Link>, sizes: &mut Vec<u32>) -> Result<(), NoMemory>
+fn add_stage(arena: &mut Arena, links: &mut Links, sizes: &mut Sizes) -> Result<(), NoMemory>
     requires { IsLinked arena.old.slots links.old.items }
     ensures room { OnOk result (arena.old.spare + 1 ≤ arena.new.spare) }
     ensures grown { IsGrown arena.old links.old.items arena.new links.new.items }
@@ -44,7 +40,7 @@ fn add_stage(arena: &mut Arena, links: &mut Vec<Link>, sizes: &mut Vec<u32>) -> 
 }
 
 /// Links for so many slots, if there aren't as many yet, or as they were.
-fn lengthen(links: &mut Vec<Link>, slots: usize) -> Result<(), NoMemory>
+fn lengthen(links: &mut Links, slots: usize) -> Result<(), NoMemory>
     ensures enough { OnOk result (slots ≤ length links.new.items) }
     ensures few { length links.new.items ≤ max (length links.old.items) slots }
     ensures kept { IsLonger links.old.items links.new.items }
@@ -58,7 +54,7 @@ fn lengthen(links: &mut Vec<Link>, slots: usize) -> Result<(), NoMemory>
 }
 
 /// Sizes for so many slots, if there aren't as many yet.
-fn lengthen_sizes(sizes: &mut Vec<u32>, slots: usize) -> Result<(), NoMemory>
+fn lengthen_sizes(sizes: &mut Sizes, slots: usize) -> Result<(), NoMemory>
     ensures { OnOk result (slots ≤ length sizes.new.items) }
 {
     sizes.reserve_exact(slots.saturating_sub(sizes.len()))?;

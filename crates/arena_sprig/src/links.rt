@@ -2,15 +2,23 @@
 ghost use Rattle.std.specs.Prelude.{◌≡◌, slice_index_or, slice_set};
 ghost use Rattle.arena_sprig.specs.Tree.{no_link, with_left, with_right, pointed, root_by};
 
+use smallvec::SmallVec;
+
+/// How many slots an arena has at first.
+pub const FIRST: usize = 4;
+
 /// No slot.
 pub const NONE: u32 = u32::MAX;
 
 /// The slots below a slot: of smaller digests, and of greater ones.
-#[derive(Clone, Copy)]
+#[derive(Clone, Copy, Default)]
 pub struct Link {
     pub left: u32,
     pub right: u32,
 }
+
+/// Links by slot. Those of an arena's first slots lie in the value.
+pub type Links = SmallVec<Link, FIRST>;
 
 /// The links of a slot that has none below it.
 pub const LEAF: Link = Link {

@@ -2,6 +2,12 @@
 // evens it out.
 ghost use Rattle.std.specs.Prelude.{◌≡◌, slice_index_or, slice_set};
 
+use crate::links::FIRST;
+use smallvec::SmallVec;
+
+/// Sizes by slot. Those of an arena's first slots lie in the value.
+pub type Sizes = SmallVec<u32, FIRST>;
+
 /// The size of the tree of a slot, and 0 for no slot.
 pub fn size_of(sizes: &[u32], slot: u32) -> u32
     ensures { result ≡ slice_index_or sizes.now slot 0 }

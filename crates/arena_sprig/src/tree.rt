@@ -5,26 +5,28 @@ ghost use Rattle.sprig_tree.specs.Entries.{IsInDigestOrder, entry_of, entry_afte
 ghost use Rattle.sprig_tree.specs.Tallies.{tally_of};
 
 use crate::growth::grow;
-use crate::links::{Link, NONE};
+use crate::links::{FIRST, LEAF, Links, NONE};
+use crate::sizes::Sizes;
 use crate::walks::{first, first_after, look_up, steps_to};
 use crate::{NoMemory, Tally, edits};
 use entry_arena::Arena;
 use rec_format::{Digest, Entry};
+use smallvec::SmallVec;
 use std::alloc::Global;
 use std::marker::Model;
 
 /// The entries of one sprig, with the room that was reserved for more of them.
 #[derive(Drop)]
 pub(crate) struct Tree {
-    arena: Arena,
-    // By slot, as are the sizes.
-    links: Vec<Link>,
-    sizes: Vec<u32>,
+    // What each look-up reads first.
     root: u32,
     count: u32,
     // How many entries more there is room for, as was promised.
     room: u32,
     tally: Tally,
+    arena: Arena,
+    links: Links,
+    sizes: Sizes,
 }
 
 impl Model for Tree {
@@ -45,13 +47,13 @@ impl Tree {
         ensures { result ≡ record { entries = []; spare = 0 } }
     {
         Tree {
-            arena: Arena::new(alloc),
-            links: Vec::new(alloc),
-            sizes: Vec::new(alloc),
             root: NONE,
             count: 0,
             room: 0,
             tally: Tally::default(),
+            arena: Arena::new(alloc),
+            links: SmallVec::from_buf(alloc, [LEAF; FIRST]),
+            sizes: SmallVec::from_buf(alloc, [0; FIRST]),
         }
     }
 

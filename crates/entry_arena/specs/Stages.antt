@@ -1,5 +1,5 @@
 -- How entries lie in stages.
-use Rattle.std.specs.Prelude.{⊤, ◌≡◌, ℕ, zero, suc, ◌+◌, ◌*◌, ◌^◌, ◌<◌, min, List, [], ◌∷◌, length, flat_map, Option}
+use Rattle.std.specs.Prelude.{⊤, ◌≡◌, ℕ, zero, suc, ◌+◌, ◌*◌, ◌^◌, ◌<◌, min, List, [], ◌∷◌, ◌++◌, length, flat_map, Option}
 use Rattle.rec_format.specs.declared.entry.Entry.{Entry}
 use Rattle.entry_arena.specs.declared.cells.Cells.{Cells}
 
@@ -26,7 +26,8 @@ abbrev pub HaveWidths : ℕ → List Cells → Type 0
 HaveWidths stage [] = ⊤
 HaveWidths stage (c ∷ cs) = (length c.cells ≡ width_of stage) × HaveWidths (suc stage) cs
 
--- the stages are whole, and this is the number of their slots
-pub record IsStaged (stages : List Cells) (total : ℕ) : Type 0 where
-  pub widths : HaveWidths 0 stages
-  pub counted : total ≡ length (flat stages)
+-- the stages are whole, the first and those behind it, and this is the number of their slots
+pub record IsStaged (first : List (Option Entry)) (more : List Cells) (total : ℕ) : Type 0 where
+  pub begins : length first ≡ width_of 0
+  pub widths : HaveWidths 1 more
+  pub counted : total ≡ length (first ++ flat more)

@@ -1,43 +1,45 @@
 // Slots for entries, and the stack of those that aren't in use.
-ghost use Rattle.std.specs.Prelude.{◌≡◌, ◌+◌, ◌-◌, ◌<◌, ◌≤◌, ◌++◌, [], length, max, None, Some, IsOk, OnOk, OnErr, IsSome, slice_set, vec_len, vec_capacity};
+ghost use Rattle.std.specs.Prelude.{◌≡◌, ◌+◌, ◌-◌, ◌<◌, ◌≤◌, ◌++◌, length, max, replicate, None, Some, IsOk, OnOk, OnErr, IsSome, slice_set};
 ghost use Rattle.std.specs.List.{range_with_len};
+ghost use Rattle.smallvec.specs.SmallVec.{small_vec_len};
 ghost use Rattle.entry_arena.specs.State.{entry_at, width_after, with_free, Grows};
 
 use crate::NoMemory;
-use crate::sizes::next_width;
+use crate::sizes::{FIRST, next_width};
 use crate::stages::Stages;
 use rec_format::Entry;
+use smallvec::SmallVec;
 use std::alloc::Global;
 use std::marker::Model;
 
-/// Slots for entries, each with its number.
+/// Slots for entries, each with its number. The first four lie in the arena itself, those behind them in memory that never moves.
 #[derive(Drop)]
 pub struct Arena {
     stages: Stages,
     // The slots that aren't in use. There is room for all slots.
-    free: Vec<u32>,
+    free: SmallVec<u32, FIRST>,
 }
 
 impl Model for Arena {
-    ghost use Rattle.std.specs.Prelude.{vec_len, vec_capacity};
+    ghost use Rattle.smallvec.specs.SmallVec.{small_vec_len};
     ghost use Rattle.entry_arena.specs.State.{ArenaState};
     ghost use Rattle.entry_arena.specs.Free.{IsFree};
 
     ghost Value = { ArenaState };
 
-    ghost view = { λ a. record { slots = a.stages; spare = vec_len a.free } };
+    ghost view = { λ a. record { slots = a.stages; spare = small_vec_len a.free } };
 
-    ghost invariant = { λ a. IsFree a.stages a.free.items (vec_capacity a.free) };
+    ghost invariant = { λ a. IsFree a.stages a.free.items a.free.capacity };
 }
 
 impl Arena {
-    /// An arena without slots. It takes no memory, and keeps the allocator.
+    /// An arena of the first four slots, none of them in use. It takes no memory, and keeps the allocator.
     pub fn new(alloc: Global) -> Arena
-        ensures { result ≡ record { slots = []; spare = 0 } }
+        ensures { result ≡ record { slots = replicate 4 None; spare = 4 } }
     {
         Arena {
             stages: Stages::new(alloc),
-            free: Vec::new(alloc),
+            free: SmallVec::from_buf(alloc, [3, 2, 1, 0]),
         }
     }
 
@@ -137,11 +139,11 @@ impl Arena {
 }
 
 /// Pushes the numbers of a range, rising.
-fn push_range(free: &mut Vec<u32>, first: u32, end: u32)
+fn push_range(free: &mut SmallVec<u32, FIRST>, first: u32, end: u32)
     requires ordered { first ≤ end }
-    requires room { vec_len free.old + (end - first) ≤ vec_capacity free.old }
+    requires room { small_vec_len free.old + (end - first) ≤ free.old.capacity }
     ensures items { free.new.items ≡ free.old.items ++ range_with_len first (end - first) }
-    ensures capacity { vec_capacity free.new ≡ vec_capacity free.old }
+    ensures capacity { free.new.capacity ≡ free.old.capacity }
 {
     for number in first..end {
         free.push_reserved(number);

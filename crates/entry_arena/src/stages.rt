@@ -1,10 +1,11 @@
-// Entries in stages. A stage takes all its memory at once, and its cells never move: only the vector of the stages does.
-ghost use Rattle.std.specs.Prelude.{◌≡◌, ◌<◌, ◌++◌, [], length, replicate, None, Some, IsSome, OnOk, OnErr, slice_index_or, slice_set};
+// Entries in stages. The first stage lies in the arena itself. Each further one takes all its memory at once, and its cells never
+// move: only the vector of these stages does.
+ghost use Rattle.std.specs.Prelude.{◌≡◌, ◌<◌, ◌++◌, length, replicate, None, Some, IsSome, OnOk, OnErr, slice_index_or, slice_set};
 ghost use Rattle.entry_arena.specs.State.{width_after};
 
 use crate::NoMemory;
 use crate::cells::Cells;
-use crate::sizes::{locate, next_width};
+use crate::sizes::{FIRST, locate, next_width};
 use rec_format::Entry;
 use std::alloc::{AllocError, Global};
 use std::marker::Model;
@@ -12,30 +13,33 @@ use std::marker::Model;
 /// A cell for each slot.
 #[derive(Drop)]
 pub struct Stages {
-    stages: Vec<Cells>,
+    first: [Option<Entry>; FIRST],
+    more: Vec<Cells>,
     total: u32,
     alloc: Global,
 }
 
 impl Model for Stages {
-    ghost use Rattle.std.specs.Prelude.{List, Option};
+    ghost use Rattle.std.specs.Prelude.{List, Option, ◌++◌};
     ghost use Rattle.rec_format.specs.declared.entry.Entry.{Entry};
     ghost use Rattle.entry_arena.specs.Stages.{flat, IsStaged};
 
     ghost Value = { List (Option Entry) };
 
-    ghost view = { λ s. flat s.stages.items };
+    ghost view = { λ s. s.first ++ flat s.more.items };
 
-    ghost invariant = { λ s. IsStaged s.stages.items s.total };
+    ghost invariant = { λ s. IsStaged s.first s.more.items s.total };
 }
 
 impl Stages {
+    /// The first stage, whose cells are empty. It takes no memory.
     pub fn new(alloc: Global) -> Stages
-        ensures { result ≡ [] }
+        ensures { result ≡ replicate 4 None }
     {
         Stages {
-            stages: Vec::new(alloc),
-            total: 0,
+            first: [None; FIRST],
+            more: Vec::new(alloc),
+            total: FIRST as u32,
             alloc,
         }
     }
@@ -55,9 +59,9 @@ impl Stages {
         if count > u32::MAX - self.total {
             return Err(AllocError);
         }
-        self.stages.reserve(1)?;
+        self.more.reserve(1)?;
         let stage = Cells::new(count as usize, self.alloc)?;
-        self.stages.push_reserved(stage);
+        self.more.push_reserved(stage);
         self.total += count;
         Ok(())
     }
@@ -67,8 +71,12 @@ impl Stages {
         requires { IsSome (slice_index_or self.now slot None) }
         ensures { slice_index_or self.now slot None ≡ Some result.now }
     {
+        let at = slot as usize;
+        if at < FIRST {
+            return self.first[at].as_ref().unwrap();
+        }
         let (stage, place) = locate(slot);
-        self.stages[stage].get(place)
+        self.more[stage].get(place)
     }
 
     /// Puts an entry into a slot, whether it has one or not.
@@ -76,8 +84,13 @@ impl Stages {
         requires { slot < length self.old }
         ensures { self.new ≡ slice_set self.old slot (Some entry) }
     {
+        let at = slot as usize;
+        if at < FIRST {
+            self.first[at] = Some(entry);
+            return;
+        }
         let (stage, place) = locate(slot);
-        self.stages[stage].put(place, entry);
+        self.more[stage].put(place, entry);
     }
 
     /// Takes the entry out of a slot that has one.
@@ -86,7 +99,13 @@ impl Stages {
         ensures value { slice_index_or self.old slot None ≡ Some result }
         ensures rest { self.new ≡ slice_set self.old slot None }
     {
+        let at = slot as usize;
+        if at < FIRST {
+            let entry = self.first[at].unwrap();
+            self.first[at] = None;
+            return entry;
+        }
         let (stage, place) = locate(slot);
-        self.stages[stage].take(place)
+        self.more[stage].take(place)
     }
 }

@@ -7,10 +7,17 @@ use rec_format::Entry;
 /// A sprig that never had an entry.
 const SPRIG: u64 = size_of::<Sprig>() as u64;
 
-/// A slot: its entry, and 4 bytes each for its place among the free ones, for its two links and for the size of what hangs there.
-const SLOT: u64 = size_of::<Entry>() as u64 + 16;
+/// How many slots lie in the box of a sprig.
+const FIRST: u64 = 4;
 
-/// What leads to a stage of slots: where it lies, and how many there are.
+/// The entry of a slot behind those.
+const ENTRY: u64 = size_of::<Entry>() as u64;
+
+/// Of each slot 4 bytes for its place among the free ones, 8 for its links, and 4 for the size of what hangs there. The first slots have them in the box,
+/// until there are more.
+const PLACE: u64 = 16;
+
+/// What leads to a further stage of slots: where it lies, and how many there are.
 const STAGE: u64 = 2 * size_of::<usize>() as u64;
 
 /// How many slots there are where there is room for so many entries: a stage has four more than all before it, and 4,096 at most.
@@ -25,15 +32,15 @@ fn slots_for(entries: u64) -> u64
     }
 }
 
-/// How many stages so many slots lie in.
+/// How many stages so many slots lie in, but for the first.
 fn stages_of(slots: u64) -> u64
     ensures { result ≤ 2 ^ 21 }
 {
     let slots = slots.min(u64::from(u32::MAX));
     if slots < 4096 {
-        u64::from((slots + 4).ilog2()).saturating_sub(2)
+        u64::from((slots + 4).ilog2()).saturating_sub(3)
     } else {
-        slots / 4096 + 10
+        slots / 4096 + 9
     }
 }
 
@@ -42,9 +49,11 @@ pub fn bytes_for(entries: u64) -> u64 {
     if entries == 0 {
         return SPRIG;
     }
+    if entries <= FIRST {
+        return SPRIG + BOXED;
+    }
     let slots = slots_for(entries);
-    let stages = stages_of(slots);
-    // They lie in a vector, which begins with room for four and doubles.
-    let headers = stages.max(4).next_power_of_two();
-    SPRIG + BOXED + slots * SLOT + headers * STAGE
+    // What leads to the stages lies in a vector, which begins with room for four and doubles.
+    let leads = stages_of(slots).max(4).next_power_of_two();
+    SPRIG + BOXED + slots.saturating_sub(FIRST) * ENTRY + slots * PLACE + leads * STAGE
 }

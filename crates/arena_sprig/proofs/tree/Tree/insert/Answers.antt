@@ -1,5 +1,5 @@
-use Rattle.std.proofs.Common.{◌≡◌, ◌+◌, ◌-◌, ◌≤◌, ◌∷◌, [], List, ap, subst, sym, ◌∙◌, arith}
-use Rattle.std.proofs.lemmas.List.{with_items_is}
+use Rattle.std.proofs.Common.{◌≡◌, ◌+◌, ◌-◌, ◌≤◌, ◌∷◌, [], List, length, ap, subst, sym, ◌∙◌, arith}
+use Rattle.smallvec.proofs.SmallVecLemmas.{items-with_items}
 use Rattle.arena_sprig.specs.declared.links.Link.{Link}
 use Rattle.sprig_tree.specs.declared.tally.Tally.{Tally}
 use Rattle.arena_sprig.specs.Growth.{TreeState}
@@ -20,5 +20,5 @@ invariant_of-self c =
     c.insert.ensures.slots c.args.entry c.insert.ensures.kept list c.insert.ensures.spare room in
     let tally : c.plus-self-inside.result ≡ joined s.tally (tally_of (c.args.entry ∷ [])) = c.plus-self-inside.ensures ∙ ap (λ (t : Tally). joined s.tally t) c.of.ensures in
     subst (λ (l : List Link). IsKept c.insert.new.arena l c.insert.new.root (s.count + 1) (s.room - 1) c.plus-self-inside.result)
-    (sym (with_items_is s.links links (c.insert.auto.links ∙ c.deref_mut.ensures.len)))
+    (sym (items-with_items s.links links (c.insert.auto.links ∙ ap length c.deref_mut.ensures.value)))
     (subst (λ (t : Tally). IsKept c.insert.new.arena links c.insert.new.root (s.count + 1) (s.room - 1) t) (sym tally) done)

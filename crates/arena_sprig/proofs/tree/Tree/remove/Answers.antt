@@ -1,7 +1,7 @@
-use Rattle.std.proofs.Common.{◌≡◌, ◌+◌, ◌-◌, ◌∷◌, [], List, Option, add-zero, ap, subst, sym, ◌∙◌}
+use Rattle.std.proofs.Common.{◌≡◌, ◌+◌, ◌-◌, ◌∷◌, [], List, length, Option, add-zero, ap, subst, sym, ◌∙◌}
 use Rattle.std.specs.Prelude.{is_some, if◌then◌else◌}
 use Rattle.rec_format.specs.declared.entry.Entry.{Entry}
-use Rattle.std.proofs.lemmas.List.{with_items_is}
+use Rattle.smallvec.proofs.SmallVecLemmas.{items-with_items}
 use Rattle.arena_sprig.specs.declared.links.Link.{Link}
 use Rattle.sprig_tree.specs.declared.tally.Tally.{Tally}
 use Rattle.sprig_tree.specs.Entries.{entry_of, without_digest}
@@ -22,7 +22,7 @@ invariant_of-self c =
     c.remove-entry.ensures.slots c.args.digest.now c.remove-entry.result found c.remove-entry.ensures.kept list c.remove-entry.ensures.spare in
     let tally : c.minus-self-inside.result ≡ parted s.tally (tally_of (c.remove-entry.result ∷ [])) = c.minus-self-inside.ensures ∙ ap (λ (t : Tally). parted s.tally t) c.of.ensures in
     subst (λ (l : List Link). IsKept c.remove-entry.new.arena l c.remove-entry.new.root (s.count - 1) (s.room + 1) c.minus-self-inside.result)
-    (sym (with_items_is s.links links (c.remove-entry.auto.links ∙ c.deref_mut.ensures.len)))
+    (sym (items-with_items s.links links (c.remove-entry.auto.links ∙ ap length c.deref_mut.ensures.value)))
     (subst (λ (t : Tally). IsKept c.remove-entry.new.arena links c.remove-entry.new.root (s.count - 1) (s.room + 1) t) (sym tally) done)
 
 pub returns-in_err-find-clause-rest : goal.returns-in_err-find-clause-rest

@@ -11,7 +11,7 @@ use Rattle.arena_sprig.proofs.tree.Tree.replace.Goals as goal
 pub invariant_of-self : goal.invariant_of-self
 invariant_of-self c =
     let s = c.self.inside in
-    let seen = c.deref.ensures.value in
+    let seen = c.deref.ensures in
     let list = ap (λ (l : List Link). entries_from s.count c.replace-old.new.arena.slots l s.root) (sym seen) ∙ c.replace-old.ensures.entries
     ∙ ap (λ (l : List Link). with_replaced c.args.entry (entries_from s.count s.arena.slots l s.root)) seen in
     let found = ap (λ (l : List Link). entry_of c.args.entry.digest (entries_from s.count s.arena.slots l s.root)) (sym seen) ∙ c.replace-old.ensures.value in

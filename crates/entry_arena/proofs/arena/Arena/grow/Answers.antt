@@ -1,5 +1,5 @@
 use Rattle.std.proofs.Common.{◌≡◌, ◌+◌, ◌-◌, ◌≤◌, ℕ, List, Option, None, sym, ap, subst, length, ◌++◌, ◌∙◌, replicate, length-append, arith}
-use Rattle.std.specs.Prelude.{vec_len, vec_capacity}
+use Rattle.smallvec.specs.SmallVec.{small_vec_len}
 use Rattle.std.specs.List.{range_with_len}
 use Rattle.std.proofs.lemmas.List.{length-replicate}
 use Rattle.std.proofs.lemmas.List.FromFn.{length-range_with_len}
@@ -28,21 +28,18 @@ pub push_range-requires-clause-ordered : goal.push_range-requires-clause-ordered
 push_range-requires-clause-ordered c = omega (arith, size c, whole c, c.len-2.ensures)
 
 -- the stack has room for all
-wide : (c : After-len-2) → length c.self.inside.stages + width_after (length c.self.inside.stages) ≤ vec_capacity c.reserve_exact.new.self
+wide : (c : After-len-2) → length c.self.inside.stages + width_after (length c.self.inside.stages) ≤ c.reserve_exact.new.self.capacity
 wide c =
-    let few = few_free c.self.inside.stages c.self.inside.free.items (vec_capacity c.self.inside.free) c.self.invariant in
+    let few = few_free c.self.inside.stages c.self.inside.free.items c.self.inside.free.capacity c.self.invariant in
     let room = c.in_ok-reserve_exact.ensures.ok in
     let len = c.len.ensures in
     let width = c.next_width.ensures in
-    let free = c.self.inside.free.ok.0 in
     omega (arith, size c)
 
 pub push_range-requires-clause-room : goal.push_range-requires-clause-room
 push_range-requires-clause-room c =
-    let few = few_free c.self.inside.stages c.self.inside.free.items (vec_capacity c.self.inside.free) c.self.invariant in
+    let few = few_free c.self.inside.stages c.self.inside.free.items c.self.inside.free.capacity c.self.invariant in
     let same : length c.reserve_exact.new.self.items ≡ length c.self.inside.free.items = ap length c.in_ok-reserve_exact.ensures.items in
-    let old = c.self.inside.free.ok.0 in
-    let new = c.reserve_exact.new.self.ok.0 in
     omega (arith, wide c, more c)
 
 items : (c : goal.After-push_range) → c.push_range.new.free.items ≡ c.self.inside.free.items ++ range_with_len (length c.self.inside.stages) (width_after (length c.self.inside.stages))
@@ -56,15 +53,15 @@ invariant_of-self-2 c =
     let count = width_after (length slots) in
     let capacity = c.push_range.ensures.capacity in
     let second = c.len-2.type_inv in
-    let kept = grow_kept slots c.self.inside.free.items count (vec_capacity c.self.inside.free) (vec_capacity c.push_range.new.free) c.self.invariant
+    let kept = grow_kept slots c.self.inside.free.items count c.self.inside.free.capacity (c.push_range.new.free.capacity) c.self.invariant
     (omega (arith, wide at)) (omega (arith, size at, more at)) in
-    let one = subst (λ (l : List ℕ). IsFree (slots ++ replicate count None) l (vec_capacity c.push_range.new.free)) (sym (items c)) kept in
-    subst (λ (l : List (Option Entry)). IsFree l c.push_range.new.free.items (vec_capacity c.push_range.new.free)) (sym c.in_ok-grow.ensures.ok) one
+    let one = subst (λ (l : List ℕ). IsFree (slots ++ replicate count None) l (c.push_range.new.free.capacity)) (sym (items c)) kept in
+    subst (λ (l : List (Option Entry)). IsFree l c.push_range.new.free.items (c.push_range.new.free.capacity)) (sym c.in_ok-grow.ensures.ok) one
 
 pub returns-clause-ok : goal.returns-clause-ok
 returns-clause-ok c =
     let count = width_after (length c.self.inside.stages) in
-    let spare : vec_len c.push_range.new.free ≡ vec_len c.self.inside.free + count =
+    let spare : small_vec_len c.push_range.new.free ≡ small_vec_len c.self.inside.free + count =
     (let all = ap length (items c) ∙ length-append c.self.inside.free.items (range_with_len (length c.self.inside.stages) count) in
-    let span = length-range_with_len (length c.self.inside.stages) count in let old = c.self.inside.free.ok.0 in let new = c.push_range.new.free.ok.0 in omega arith) in
+    let span = length-range_with_len (length c.self.inside.stages) count in omega arith) in
     (λ i. state (c.in_ok-grow.ensures.ok i) (spare i)) ∙ (λ i. with_free (width_after (length (c.self.view_is i).slots)) (c.self.view_is i))
