@@ -3,7 +3,7 @@ ghost use Rattle.std.specs.Prelude.{◌≡◌, ◌+◌, ◌-◌, ◌≤◌, None
 ghost use Rattle.sprig_tree.specs.Entries.{entry_of, with_entry, with_replaced, without_digest};
 ghost use Rattle.arena_sprig.specs.Tree.{IsTree, entries_from};
 
-use crate::links::{LEAF, Link, NONE, link_of, point, set_link};
+use crate::links::{LEAF, Link, Links, NONE, link_of, point, set_link};
 use crate::sizes::set_size;
 use crate::walks::{last_below, reach, walk};
 use entry_arena::Arena;
@@ -34,12 +34,12 @@ pub fn insert(
 }
 
 /// Puts an entry in place of the one of its digest, which there must be, and answers that one.
-pub fn replace(arena: &mut Arena, links: &[Link], root: u32, count: u32, entry: Entry) -> Entry
-    requires kept { IsTree arena.old.slots links.now root count }
-    requires there { IsSome (entry_of entry.digest (entries_from count arena.old.slots links.now root)) }
-    ensures value { entry_of entry.digest (entries_from count arena.old.slots links.now root) ≡ Some result }
-    ensures kept { IsTree arena.new.slots links.now root count }
-    ensures entries { entries_from count arena.new.slots links.now root ≡ with_replaced entry (entries_from count arena.old.slots links.now root) }
+pub fn replace(arena: &mut Arena, links: &Links, root: u32, count: u32, entry: Entry) -> Entry
+    requires kept { IsTree arena.old.slots links.now.items root count }
+    requires there { IsSome (entry_of entry.digest (entries_from count arena.old.slots links.now.items root)) }
+    ensures value { entry_of entry.digest (entries_from count arena.old.slots links.now.items root) ≡ Some result }
+    ensures kept { IsTree arena.new.slots links.now.items root count }
+    ensures entries { entries_from count arena.new.slots links.now.items root ≡ with_replaced entry (entries_from count arena.old.slots links.now.items root) }
     ensures slots { length arena.new.slots ≡ length arena.old.slots }
     ensures spare { arena.new.spare ≡ arena.old.spare }
 {

@@ -13,5 +13,6 @@ mod tree;
 mod turns;
 mod walks;
 
+pub use entry_arena::FIRST;
 pub use sprig::{BOXED, Sprig};
 pub use sprig_tree::{NoMemory, Tally};

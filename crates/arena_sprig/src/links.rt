@@ -2,10 +2,8 @@
 ghost use Rattle.std.specs.Prelude.{◌≡◌, slice_index_or, slice_set};
 ghost use Rattle.arena_sprig.specs.Tree.{no_link, with_left, with_right, pointed, root_by};
 
+use entry_arena::FIRST;
 use smallvec::SmallVec;
-
-/// How many slots an arena has at first.
-pub const FIRST: usize = 4;
 
 /// No slot.
 pub const NONE: u32 = u32::MAX;

@@ -2,7 +2,7 @@
 // evens it out.
 ghost use Rattle.std.specs.Prelude.{◌≡◌, slice_index_or, slice_set};
 
-use crate::links::FIRST;
+use entry_arena::FIRST;
 use smallvec::SmallVec;
 
 /// Sizes by slot. Those of an arena's first slots lie in the value.

@@ -5,11 +5,11 @@ ghost use Rattle.sprig_tree.specs.Entries.{IsInDigestOrder, entry_of, entry_afte
 ghost use Rattle.sprig_tree.specs.Tallies.{tally_of};
 
 use crate::growth::grow;
-use crate::links::{FIRST, LEAF, Links, NONE};
+use crate::links::{LEAF, Links, NONE};
 use crate::sizes::Sizes;
 use crate::walks::{first, first_after, look_up, steps_to};
 use crate::{NoMemory, Tally, edits};
-use entry_arena::Arena;
+use entry_arena::{Arena, FIRST};
 use rec_format::{Digest, Entry};
 use smallvec::SmallVec;
 use std::alloc::Global;

@@ -3,7 +3,7 @@ ghost use Rattle.std.specs.Prelude.{◌≡◌, ◌≤◌, Some, None};
 ghost use Rattle.sprig_tree.specs.Entries.{entry_of, entry_after};
 ghost use Rattle.arena_sprig.specs.Tree.{IsTree, IsReached, FindsLast, entries_from};
 
-use crate::links::{Gap, Link, NONE, Place, link_of};
+use crate::links::{Gap, Link, Links, NONE, Place, link_of};
 use crate::sizes::{set_size, size_of};
 use crate::turns::even_out;
 use entry_arena::Arena;
@@ -11,9 +11,9 @@ use rec_format::{Digest, Entry};
 use std::cmp::Ordering;
 
 /// The place of a digest's entry, or where it would go.
-pub fn reach(arena: &Arena, links: &[Link], root: u32, count: u32, digest: &Digest) -> Place
-    requires { IsTree arena.now.slots links.now root count }
-    ensures { IsReached arena.now.slots links.now root (entries_from count arena.now.slots links.now root) digest.now result.gap result.at count }
+pub fn reach(arena: &Arena, links: &Links, root: u32, count: u32, digest: &Digest) -> Place
+    requires { IsTree arena.now.slots links.now.items root count }
+    ensures { IsReached arena.now.slots links.now.items root (entries_from count arena.now.slots links.now.items root) digest.now result.gap result.at count }
 {
     let mut gap = Gap::Root;
     let mut at = root;
@@ -22,16 +22,15 @@ pub fn reach(arena: &Arena, links: &[Link], root: u32, count: u32, digest: &Dige
         if at == NONE {
             return Place { gap, at };
         }
-        let link = link_of(links, at);
         match arena.get(at).digest.cmp(digest) {
             Ordering::Equal => return Place { gap, at },
             Ordering::Less => {
                 gap = Gap::Right(at);
-                at = link.right;
+                at = link_of(links, at).right;
             }
             Ordering::Greater => {
                 gap = Gap::Left(at);
-                at = link.left;
+                at = link_of(links, at).left;
             }
         }
     }
@@ -41,13 +40,13 @@ pub fn reach(arena: &Arena, links: &[Link], root: u32, count: u32, digest: &Dige
 /// The entry of a digest; none where it has none.
 pub fn look_up(
     arena: &Arena,
-    links: &[Link],
+    links: &Links,
     root: u32,
     count: u32,
     digest: &Digest,
 ) -> Option<Entry>
-    requires { IsTree arena.now.slots links.now root count }
-    ensures { result ≡ entry_of digest.now (entries_from count arena.now.slots links.now root) }
+    requires { IsTree arena.now.slots links.now.items root count }
+    ensures { result ≡ entry_of digest.now (entries_from count arena.now.slots links.now.items root) }
 {
     let place = reach(arena, links, root, count, digest);
     if place.at == NONE {
@@ -57,8 +56,8 @@ pub fn look_up(
 }
 
 /// How many slots `reach` looks at on its way. No contract rests on it: the fewer they are, the faster is a look-up.
-pub fn steps_to(arena: &Arena, links: &[Link], root: u32, count: u32, digest: &Digest) -> u32
-    requires { IsTree arena.now.slots links.now root count }
+pub fn steps_to(arena: &Arena, links: &Links, root: u32, count: u32, digest: &Digest) -> u32
+    requires { IsTree arena.now.slots links.now.items root count }
     ensures { result ≤ count }
 {
     let mut at = root;
@@ -66,11 +65,10 @@ pub fn steps_to(arena: &Arena, links: &[Link], root: u32, count: u32, digest: &D
         if at == NONE {
             return step;
         }
-        let link = link_of(links, at);
         match arena.get(at).digest.cmp(digest) {
             Ordering::Equal => return step + 1,
-            Ordering::Less => at = link.right,
-            Ordering::Greater => at = link.left,
+            Ordering::Less => at = link_of(links, at).right,
+            Ordering::Greater => at = link_of(links, at).left,
         }
     }
     count

@@ -3,7 +3,7 @@ ghost use Rattle.std.specs.Prelude.{◌≡◌, ◌+◌, ◌≤◌};
 ghost use Rattle.entry_arena.specs.State.{width_after};
 ghost use Rattle.entry_arena.specs.Stages.{IsAt};
 
-/// How many slots the first stage has.
+/// How many slots an arena has from the first, in itself.
 pub const FIRST: usize = 4;
 
 /// How many slots the stage has that comes behind so many slots: 4 the first, twice as many each further one, and 4,096 at

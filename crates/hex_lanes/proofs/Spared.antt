@@ -1,8 +1,8 @@
 -- Digits are never refused for want of memory.
-use Rattle.std.proofs.Common.{◌≡◌, ℕ, ◌+◌, ◌*◌, ◌%◌, ◌/◌, Bool, true, false, List, [], ◌∷◌, length, Option, Some, None, Result, Ok, Err, sym, ◌∙◌}
+use Rattle.std.proofs.Common.{◌≡◌, ℕ, ◌+◌, ◌%◌, Bool, true, false, List, [], ◌∷◌, length, Option, Some, None, Result, Ok, Err, sym, ◌∙◌}
 use Rattle.std.specs.Prelude.{⊤, ◌==◌, if◌then◌else◌, MatchResult}
 use Rattle.hex.specs.declared.error.FromHexError.{FromHexError}
-use Rattle.hex.specs.declared.error.FromHexError.TheVariants.{OddLength, OutOfMemory, InvalidHexCharacter}
+use Rattle.hex.specs.declared.error.FromHexError.TheVariants.{OddLength, OutOfMemory}
 use Rattle.hex.specs.Hex.{◌>>=◌, digit_or_error, value_at, pair_value, hex_digit_value, decode_pairs, decode_of}
 
 abbrev pub Spared : {X : Type 0} → Result X FromHexError → Type 0

@@ -18,7 +18,7 @@ use std::simd::prelude::*;
 const BYTES: usize = 16;
 
 // The digits of how many bytes are put behind a text at a time.
-const PIECE: usize = 256;
+const PIECE: usize = 64;
 
 // How far the second chunk of so many bytes begins behind the first. It laps over the first, so that the last chunk ends where the bytes do.
 fn first_step(count: usize) -> usize
@@ -29,6 +29,7 @@ fn first_step(count: usize) -> usize
 }
 
 // Writes the text of the bytes, in lower case.
+#[inline(always)]
 fn encode_into(bytes: &[u8], text: &mut [u8])
     requires { length text.old ≡ 2 * length bytes.now }
     ensures { text.new ≡ encode_lower bytes.now }
@@ -51,13 +52,14 @@ fn put_digits(bytes: &[u8], text: &mut Vec<u8>)
 {
     let mut digits = [0; 2 * PIECE];
     let mut at = 0;
-    'pieces: while at < bytes.len() {
-        let count = PIECE.min(bytes.len() - at);
-        let (piece, _) = digits.split_at_mut(2 * count);
-        encode_into(&bytes[at..at + count], piece);
-        let _ = text.extend_from_slice(piece);
-        at += count;
+    'pieces: while bytes.len() - at >= PIECE {
+        encode_into(&bytes[at..at + PIECE], &mut digits);
+        let _ = text.extend_from_slice(&digits);
+        at += PIECE;
     }
+    let (digits, _) = digits.split_at_mut(2 * (bytes.len() - at));
+    encode_into(&bytes[at..], digits);
+    let _ = text.extend_from_slice(digits);
 }
 
 /// At `Ok` the hex digits of the bytes stand behind what was in `text`, in lower case and the high half of each byte first.

@@ -20,13 +20,21 @@ fn put(text: &[u8], out: &mut Vec<u8>) -> Result<(), NoMemory>
     out.extend_from_slice(text)
 }
 
+fn put_byte(byte: u8, out: &mut Vec<u8>) -> Result<(), NoMemory>
+    ensures ok { OnOk result (out.new.items ≡ out.old.items ++ byte ∷ []) }
+    ensures kept { GoesOn out.old.items out.new.items }
+{
+    out.push(byte)?;
+    Ok(())
+}
+
 // A space and the number.
 fn put_number(number: u64, out: &mut Vec<u8>) -> Result<(), NoMemory>
     ensures ok { OnOk result (out.new.items ≡ out.old.items ++ spaced number) }
     ensures kept { GoesOn out.old.items out.new.items }
 {
     let mut buffer = Buffer::new();
-    put(b" ", out)?;
+    put_byte(b' ', out)?;
     put(buffer.format(number).as_bytes(), out)
 }
 
@@ -53,7 +61,7 @@ fn put_line(word: &[u8], numbers: &[u64], out: &mut Vec<u8>) -> Result<(), NoMem
     ensures kept { GoesOn out.old.items out.new.items }
 {
     put_words(word, numbers, out)?;
-    put(b"\n", out)
+    put_byte(b'\n', out)
 }
 
 // The hex digits of the bytes in lower case, and a dash where there are no bytes.
@@ -62,7 +70,7 @@ fn put_data(bytes: &[u8], out: &mut Vec<u8>) -> Result<(), NoMemory>
     ensures kept { GoesOn out.old.items out.new.items }
 {
     if bytes.is_empty() {
-        return put(b"-", out);
+        return put_byte(b'-', out);
     }
     hex_lanes::encode_onto(bytes, out)
 }
@@ -75,9 +83,9 @@ fn put_value(stamp: Stamp, void: u64, payload: &Bytes, out: &mut Vec<u8>) -> Res
     let bytes = payload.as_slice();
     out.reserve(bytes.len().saturating_mul(2).saturating_add(VALUE_ROOM))?;
     put_words(b"val", &[u64::from(stamp.gen_), stamp.lut, void], out)?;
-    put(b" ", out)?;
+    put_byte(b' ', out)?;
     put_data(bytes, out)?;
-    put(b"\n", out)
+    put_byte(b'\n', out)
 }
 
 fn put_counts(counts: Counts, out: &mut Vec<u8>) -> Result<(), NoMemory>

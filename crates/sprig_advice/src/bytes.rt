@@ -1,14 +1,14 @@
 // The bytes of one sprig.
 ghost use Rattle.std.specs.Prelude.{◌≤◌, ◌^◌};
 
-use arena_sprig::{BOXED, Sprig};
+use arena_sprig::{BOXED, FIRST, Sprig};
 use rec_format::Entry;
 
 /// A sprig that never had an entry.
 const SPRIG: u64 = size_of::<Sprig>() as u64;
 
 /// How many slots lie in the box of a sprig.
-const FIRST: u64 = 4;
+const IN_BOX: u64 = FIRST as u64;
 
 /// The entry of a slot behind those.
 const ENTRY: u64 = size_of::<Entry>() as u64;
@@ -49,11 +49,11 @@ pub fn bytes_for(entries: u64) -> u64 {
     if entries == 0 {
         return SPRIG;
     }
-    if entries <= FIRST {
+    if entries <= IN_BOX {
         return SPRIG + BOXED;
     }
     let slots = slots_for(entries);
     // What leads to the stages lies in a vector, which begins with room for four and doubles.
     let leads = stages_of(slots).max(4).next_power_of_two();
-    SPRIG + BOXED + slots.saturating_sub(FIRST) * ENTRY + slots * PLACE + leads * STAGE
+    SPRIG + BOXED + slots.saturating_sub(IN_BOX) * ENTRY + slots * PLACE + leads * STAGE
 }

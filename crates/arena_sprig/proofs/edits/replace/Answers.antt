@@ -13,21 +13,21 @@ use Rattle.arena_sprig.proofs.edits.replace.Goals as goal
 pub get-old-requires : goal.get-old-requires
 get-old-requires c =
     let slots = c.args.arena.now.slots in
-    let entries = entries_from c.args.count slots c.args.links.now c.args.root in
-    let one = there slots c.args.links.now c.args.root entries c.args.entry.digest c.reach-place.result.gap c.reach-place.result.at c.args.count c.reach-place.ensures c.requires.there in
+    let entries = entries_from c.args.count slots c.args.links.now.items c.args.root in
+    let one = there slots c.args.links.now.items c.args.root entries c.args.entry.digest c.reach-place.result.gap c.reach-place.result.at c.args.count c.reach-place.ensures c.requires.there in
     subst (λ (o : Option Entry). IsSome o) (sym one.holds) refl
 
 pub set-requires : goal.set-requires
 set-requires c =
     let slots = c.args.arena.now.slots in
-    let entries = entries_from c.args.count slots c.args.links.now c.args.root in
-    let one = there slots c.args.links.now c.args.root entries c.args.entry.digest c.reach-place.result.gap c.reach-place.result.at c.args.count c.reach-place.ensures c.requires.there in
+    let entries = entries_from c.args.count slots c.args.links.now.items c.args.root in
+    let one = there slots c.args.links.now.items c.args.root entries c.args.entry.digest c.reach-place.result.gap c.reach-place.result.at c.args.count c.reach-place.ensures c.requires.there in
     subst (λ (o : Option Entry). IsSome o) (sym one.holds) refl
 
 pub returns : goal.returns
 returns c =
     let slots = c.args.arena.now.slots in
-    let links = c.args.links.now in
+    let links = c.args.links.now.items in
     let root = c.args.root in
     let count = c.args.count in
     let at = c.reach-place.result.at in
