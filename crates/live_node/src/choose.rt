@@ -100,7 +100,7 @@ impl<D: Disk> Live<D> {
     ) -> Result<Option<u32>, VacateRefusal>
         requires pass { Holds self.now None true pass.old }
         requires room { HasListRoom (opening_at self.now) (vec_capacity list.old) }
-        requires hub { HubFits D.view (opening_at self.now) (seen_by (view pass.old)) hub.shelf.value hub.tally }
+        requires hub { HubFits D.view (opening_at self.now) (seen_by (view pass.old)) hub.shelf.value hub.tally.value }
         ensures pass { IsPassAt self.now pass.new }
         ensures numbers { KeepsNumbers pass.old pass.new }
         ensures room { vec_capacity list.new ≡ vec_capacity list.old }

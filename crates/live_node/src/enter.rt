@@ -33,7 +33,7 @@ impl<D: Disk> Live<D> {
         requires asks { C.asks call.now }
         requires own { NamesOwn (setup_at (opening_at self.now)) (C.call call.now) }
         requires part { part ≡ C.part call.now (setup_at (opening_at self.now)) }
-        requires hub { HubFits D.view (opening_at self.now) (seen_by (view pass.old)) hub.shelf.value hub.tally }
+        requires hub { HubFits D.view (opening_at self.now) (seen_by (view pass.old)) hub.shelf.value hub.tally.value }
         requires sprig { PartFits (opening_at self.now) (seen_by (view pass.old)) part sprig.old }
         ensures pass { Holds self.now (Some part) false pass.new }
         ensures numbers { KeepsNumbers pass.old pass.new }
@@ -43,7 +43,7 @@ impl<D: Disk> Live<D> {
     {
         let before = sprig.tally();
         let answer = call.step(alloc, room, sprig, &mut *hub.shelf, &self.set);
-        hub.tally = hub.tally.minus(before).plus(sprig.tally());
+        *hub.tally = hub.tally.minus(before).plus(sprig.tally());
         self.give_step(pass, hub, sprig, part, call, &answer);
         answer
     }
@@ -59,12 +59,12 @@ impl<D: Disk> Live<D> {
         answer: &C::Answer,
     )
         requires pass { Holds self.now (Some part) true pass.old }
-        requires made { (e : PartEvent) × StepFits D.view (opening_at self.now) (seen_by (view pass.old)) (Is (C.call call.now) (C.answers call.now answer.now)) part hub.shelf.value hub.tally sprig.now e }
+        requires made { (e : PartEvent) × StepFits D.view (opening_at self.now) (seen_by (view pass.old)) (Is (C.call call.now) (C.answers call.now answer.now)) part hub.shelf.value hub.tally.value sprig.now e }
         ensures pass { Holds self.now (Some part) false pass.new }
         ensures numbers { KeepsNumbers pass.old pass.new }
         ensures found { found_out pass.new ≡ found_out pass.old }
         ensures once { (by : AnswersBy D.view (opening_at self.now) (view pass.old) (view pass.new) (Is (C.call call.now) (C.answers call.now answer.now))) × (by.past ≡ seen_by (view pass.old)) }
-        ensures hub { HubFits D.view (opening_at self.now) (seen_by (view pass.new)) hub.shelf.value hub.tally }
+        ensures hub { HubFits D.view (opening_at self.now) (seen_by (view pass.new)) hub.shelf.value hub.tally.value }
         ensures sprig { PartFits (opening_at self.now) (seen_by (view pass.new)) part sprig.now }
     {
         let event = Noted::about::<Stepped<D, C, C::Answer>, StepNotes<C>>(&Stepped {
@@ -86,7 +86,7 @@ impl<D: Disk> Live<D> {
         call: &C,
     ) -> C::Answer
         requires pass { Holds self.now None true pass.old }
-        requires hub { HubFits D.view (opening_at self.now) (seen_by (view pass.old)) hub.shelf.value hub.tally }
+        requires hub { HubFits D.view (opening_at self.now) (seen_by (view pass.old)) hub.shelf.value hub.tally.value }
         ensures pass { IsPassAt self.now pass.new }
         ensures numbers { KeepsNumbers pass.old pass.new }
         ensures once { AnswersBy D.view (opening_at self.now) (view pass.old) (view pass.new) (Is (C.call call.now) (C.answers call.now result)) }
@@ -106,11 +106,11 @@ impl<D: Disk> Live<D> {
         answer: &C::Answer,
     )
         requires pass { Holds self.now None true pass.old }
-        requires made { (e : PartEvent) × HubStepFits D.view (opening_at self.now) (seen_by (view pass.old)) (Is (C.call call.now) (C.answers call.now answer.now)) hub.shelf.value hub.tally e }
+        requires made { (e : PartEvent) × HubStepFits D.view (opening_at self.now) (seen_by (view pass.old)) (Is (C.call call.now) (C.answers call.now answer.now)) hub.shelf.value hub.tally.value e }
         ensures pass { IsPassAt self.now pass.new }
         ensures numbers { KeepsNumbers pass.old pass.new }
         ensures once { (by : AnswersBy D.view (opening_at self.now) (view pass.old) (view pass.new) (Is (C.call call.now) (C.answers call.now answer.now))) × (by.past ≡ seen_by (view pass.old)) }
-        ensures hub { HubFits D.view (opening_at self.now) (seen_by (view pass.new)) hub.shelf.value hub.tally }
+        ensures hub { HubFits D.view (opening_at self.now) (seen_by (view pass.new)) hub.shelf.value hub.tally.value }
     {
         let event = Noted::about::<HubStepped<D, C, C::Answer>, HubNotes<C>>(&HubStepped {
             pass: &*pass,

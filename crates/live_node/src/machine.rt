@@ -75,7 +75,7 @@ impl<D: Disk> Machine for Device<D> {
 
     type Opening = Origin<D>;
 
-    ghost hub_fits = { λ o notes h. HubFits D.view o (events_in notes) h.shelf.value h.tally };
+    ghost hub_fits = { λ o notes h. HubFits D.view o (events_in notes) h.shelf.value h.tally.value };
 
     ghost part_fits = { λ o notes k p. PartFits o (events_in notes) k p };
 

@@ -41,7 +41,7 @@ impl<'a, D: Disk, C: EventCall> Notes<Stepped<'a, D, C, C::Answer>, Happening> f
     ghost use Rattle.live_node.specs.Fits.{Is, StepFits};
     ghost use Rattle.live_node.specs.Calls.{seen_by};
 
-    ghost may_note = { λ a e. IsSomeAnd (view a.pass.now).opening (λ o. StepFits D.view o (seen_by (view a.pass.now)) (Is (C.call a.call.now) (C.answers a.call.now a.answer.now)) a.part a.hub.now.shelf.value a.hub.now.tally a.sprig.now e) };
+    ghost may_note = { λ a e. IsSomeAnd (view a.pass.now).opening (λ o. StepFits D.view o (seen_by (view a.pass.now)) (Is (C.call a.call.now) (C.answers a.call.now a.answer.now)) a.part a.hub.now.shelf.value a.hub.now.tally.value a.sprig.now e) };
 }
 
 /// A step over the hub alone, as it left it.
@@ -74,5 +74,5 @@ impl<'a, D: Disk, C: EventCall> Notes<HubStepped<'a, D, C, C::Answer>, Happening
     ghost use Rattle.live_node.specs.Fits.{Is, HubStepFits};
     ghost use Rattle.live_node.specs.Calls.{seen_by};
 
-    ghost may_note = { λ a e. IsSomeAnd (view a.pass.now).opening (λ o. HubStepFits D.view o (seen_by (view a.pass.now)) (Is (C.call a.call.now) (C.answers a.call.now a.answer.now)) a.hub.now.shelf.value a.hub.now.tally e) };
+    ghost may_note = { λ a e. IsSomeAnd (view a.pass.now).opening (λ o. HubStepFits D.view o (seen_by (view a.pass.now)) (Is (C.call a.call.now) (C.answers a.call.now a.answer.now)) a.hub.now.shelf.value a.hub.now.tally.value e) };
 }

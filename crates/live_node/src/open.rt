@@ -48,7 +48,7 @@ fn made<D: Disk>(
     requires count { (0 < vec_len sprigs) × (vec_len sprigs + 1 < 2 ^ 32) }
     requires over { IsTableOf opening rest.geometry rest.set (vec_len sprigs) }
     requires room { most_records (block_capacity rest.geometry.block_size) ≤ vec_capacity rest.listed }
-    requires hub { HubFits D.view opening [] hub.shelf.value hub.tally }
+    requires hub { HubFits D.view opening [] hub.shelf.value hub.tally.value }
     requires parts { (k : ℕ) (p : SprigState) → slice_get sprigs.items k ≡ Some p → PartFits opening [] k p }
     ensures opening { IfOk result (λ r. opening_at r.0 ≡ opening) }
     ensures pass { IfOk result (λ r. IsPassAt r.0 r.1 × (view r.1 ≡ newcomer opening)) }

@@ -132,7 +132,7 @@ impl<D: Disk> Live<D> {
         let mut hub = self.take_hub(rt, pass);
         let before = sprig.tally();
         let answer = part_turn(&mut sprig, &mut *hub.shelf, raid, self.set.raid_age, now);
-        hub.tally = hub.tally.minus(before).plus(sprig.tally());
+        *hub.tally = hub.tally.minus(before).plus(sprig.tally());
         self.give_step(pass, hub, &sprig, part, &turn, &answer);
         self.give_part(pass, sprig, part);
         answer

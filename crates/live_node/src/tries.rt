@@ -134,7 +134,7 @@ impl<D: Disk> Live<D> {
         ensures numbers { KeepsNumbers pass.old pass.new }
         ensures right { IsRight D.view (opening_at self.now) (view pass.old) (view pass.new) [] }
         ensures none { IfNone result (Holds self.now (held_part pass.old) false pass.new × (found_out pass.new ≡ found_out pass.old ++ shelf_slot self.now ∷ []) × (own_count pass.old + joined_count pass.old < all_numbers) × (seen_by (view pass.new) ≡ seen_by (view pass.old))) }
-        ensures some { IfSome result (λ hub. Holds self.now (held_part pass.old) true pass.new × (found_out pass.new ≡ found_out pass.old) × HubFits D.view (opening_at self.now) (seen_by (view pass.new)) hub.shelf.value hub.tally
+        ensures some { IfSome result (λ hub. Holds self.now (held_part pass.old) true pass.new × (found_out pass.new ≡ found_out pass.old) × HubFits D.view (opening_at self.now) (seen_by (view pass.new)) hub.shelf.value hub.tally.value
             × ((k : ℕ) (p : SprigState) → held_part pass.old ≡ Some k → PartFits (opening_at self.now) (seen_by (view pass.old)) k p → PartFits (opening_at self.now) (seen_by (view pass.new)) k p)) }
     {
         let Some(hub) = self.table.try_hub(pass) else {

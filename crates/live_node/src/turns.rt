@@ -56,7 +56,7 @@ impl<D: Disk> Live<D> {
         ensures pass { Holds self.now (held_part pass.old) true pass.new }
         ensures numbers { KeepsNumbers pass.old pass.new }
         ensures right { IsRight D.view (opening_at self.now) (view pass.old) (view pass.new) [] }
-        ensures fits { HubFits D.view (opening_at self.now) (seen_by (view pass.new)) result.shelf.value result.tally }
+        ensures fits { HubFits D.view (opening_at self.now) (seen_by (view pass.new)) result.shelf.value result.tally.value }
         ensures still { (k : ℕ) (p : SprigState) → held_part pass.old ≡ Some k → PartFits (opening_at self.now) (seen_by (view pass.old)) k p → PartFits (opening_at self.now) (seen_by (view pass.new)) k p }
     {
         self.table.take_hub(rt, pass)
@@ -65,7 +65,7 @@ impl<D: Disk> Live<D> {
     // Gives the hub back with no event.
     pub(crate) fn give_back(&self, pass: &mut LivePass<D>, hub: Hub<D>)
         requires pass { Holds self.now None true pass.old }
-        requires fits { HubFits D.view (opening_at self.now) (seen_by (view pass.old)) hub.shelf.value hub.tally }
+        requires fits { HubFits D.view (opening_at self.now) (seen_by (view pass.old)) hub.shelf.value hub.tally.value }
         ensures pass { IsPassAt self.now pass.new }
         ensures numbers { KeepsNumbers pass.old pass.new }
         ensures right { IsRight D.view (opening_at self.now) (view pass.old) (view pass.new) [] }

@@ -13,19 +13,19 @@ use Rattle.live_node.proofs.hub.Hub.counts.Given.{Over}
 use Rattle.live_node.proofs.hub.Hub.counts.Goals as goal
 
 module _ (g : Over) (c : goal.After-counts g) (o : Opening g.row.D.Denot) (events : List Event)
-    (hub : HubFits g.D.Disk.view o events c.deref-shelf.result.now c.args.self.now.tally) (opening : IsOpening o) where
+    (hub : HubFits g.D.Disk.view o events c.deref-shelf.result.now c.deref-tally.result.now) (opening : IsOpening o) where
   abbrev told : Counts
   told = record {
-    records = c.args.self.now.tally.records;
-    tombstones = c.args.self.now.tally.tombstones;
-    covered = c.args.self.now.tally.covered;
+    records = c.deref-tally.result.now.records;
+    tombstones = c.deref-tally.result.now.tombstones;
+    covered = c.deref-tally.result.now.covered;
     free = c.counts.result.free;
     pending = c.counts.result.pending;
     queued = c.counts.result.queued;
     held = c.counts.result.held;
   }
 
-  abbrev fits : FitsAlone g.D.Disk.view o events o.set c.deref-shelf.result.now c.args.self.now.tally
+  abbrev fits : FitsAlone g.D.Disk.view o events o.set c.deref-shelf.result.now c.deref-tally.result.now
   fits = record { opening = opening; is_set = refl; hub = hub }
 
   abbrev shard : ShardView g.row.D.Denot
@@ -50,8 +50,12 @@ module _ (g : Over) (c : goal.After-counts g) (o : Opening g.row.D.Denot) (event
       (few_counts g.D.Disk.view shard (state_at o events) c.geometry-shape.ensures.whole (as_whole fits) agrees c.counts.result.held c.counts.ensures.held c.counts.result.queued
       (c.counts.ensures.queued (setup_of shard) (state_at o events) agrees.shelf.queue) c.counts.ensures.few)
 
+lent : (g : Over) (c : goal.After-counts g) (o : Opening g.row.D.Denot) (events : List Event) → HubFits g.D.Disk.view o events c.args.self.now.shelf.value c.args.self.now.tally.value
+    → HubFits g.D.Disk.view o events c.deref-shelf.result.now c.deref-tally.result.now
+lent g c o events hub = by_lent c.deref-shelf.ensures (subst (λ (t : Tally). HubFits g.D.Disk.view o events c.args.self.now.shelf.value t) (sym c.deref-tally.ensures) hub)
+
 pub returns-clause-numbers : goal.returns-clause-numbers
-returns-clause-numbers g c = λ o events hub. tells g c o events (by_lent c.deref-shelf.ensures hub)
+returns-clause-numbers g c = λ o events hub. tells g c o events (lent g c o events hub)
 
 pub returns-clause-few : goal.returns-clause-few
-returns-clause-few g c = λ o events hub. small g c o events (by_lent c.deref-shelf.ensures hub)
+returns-clause-few g c = λ o events hub. small g c o events (lent g c o events hub)

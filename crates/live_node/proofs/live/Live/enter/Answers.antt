@@ -1,4 +1,6 @@
-use Rattle.std.proofs.Common.{arith}
+use Rattle.std.proofs.Common.{ap, arith, ◌∙◌}
+use Rattle.sprig_tree.specs.declared.tally.Tally.{Tally}
+use Rattle.sprig_tree.specs.Tallies.{parted}
 use Rattle.turn_table.specs.Passes.{view}
 use Rattle.live_node.specs.Opening.{setup_at, state_at}
 use Rattle.live_node.specs.Calls.{seen_by}
@@ -29,6 +31,6 @@ give_step-requires-clause-made g c =
     let named = g.met.C.Step.named call (setup_at (opening_at c.args.self.now)) in
     step_fits (fits_alone (over_at c.self.view_is c.self.invariant.0) (by_lent c.deref_mut.ensures.value c.requires.hub)) (g.C.Step.part call) c.args.part (g.C.EventCall.call call) (g.C.EventCall.answers call answer.result) old answer.new.sprig answer.new.shelf _
     c.requires.part named c.requires.own answer.ensures.shape answer.ensures.honest c.requires.sprig
-    (counts_by c.args.hub.tally c.tally-before.result c.tally.result c.minus.result c.plus-hub.result c.args.part old answer.new.sprig
-    c.tally-before.ensures c.tally.ensures c.minus.ensures c.plus-hub.ensures (omega arith) (omega arith) (omega arith))
+    (counts_by c.args.hub.tally.value c.tally-before.result c.tally.result c.minus.result c.plus.result c.args.part old answer.new.sprig
+    c.tally-before.ensures c.tally.ensures (c.minus.ensures ∙ ap (λ (t : Tally). parted t c.tally-before.result) c.deref.ensures) c.plus.ensures (omega arith) (omega arith) (omega arith))
     answer.ensures.makes

@@ -19,4 +19,4 @@ returns-clause-hub g c =
     let gave = c.give_hub in
     let o = opening_at c.args.self.now in
     let step = hub_step_noted (view c.args.pass.now) o c.about-event.result c.requires.pass.0.opened c.about-event.ensures in
-    subst (λ (l : List Event). HubFits g.D.Disk.view o l c.args.hub.shelf.value c.args.hub.tally) (sym (seen_more (view c.args.pass.now) (view gave.new.pass) c.about-event.result gave.ensures.pass.1)) step.hub_fits
+    subst (λ (l : List Event). HubFits g.D.Disk.view o l c.args.hub.shelf.value c.args.hub.tally.value) (sym (seen_more (view c.args.pass.now) (view gave.new.pass) c.about-event.result gave.ensures.pass.1)) step.hub_fits

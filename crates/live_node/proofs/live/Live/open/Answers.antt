@@ -35,7 +35,7 @@ made-requires g c κs within =
           subst (λ (geometry : Geometry). IsTableOf (opened shard state) geometry shard.set parts.sprigs.len) (sym shape) table,
           (
             subst (λ (geometry : Geometry). most_records (block_capacity geometry.block_size) ≤ vec_capacity parts.listed) (sym shape) room,
-            (first_hub g.D.Disk.view shard state whole agrees disk c.in-Ok.hub.tally tally, first_part g.D.Disk.view shard state whole agrees),
+            (first_hub g.D.Disk.view shard state whole agrees disk c.in-Ok.hub.tally.value tally, first_part g.D.Disk.view shard state whole agrees),
           ),
         ),
       ),

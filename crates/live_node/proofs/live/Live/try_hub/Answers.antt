@@ -24,7 +24,7 @@ returns-clause-some g c =
     let hub = c.in-Some.hub in (
       (subst (λ (live : Live g.row.D.Denot). IsPassOf live c.try_hub.new.pass) c.self.view_is told.pass, ap (λ v. v.part) told.some, ap (λ v. v.hub) told.some),
       ap (λ v. v.found_out) told.some,
-      subst (λ (live : Live g.row.D.Denot). HubFits g.D.Disk.view (opening_at live) (seen_by w) hub.shelf.value hub.tally) c.self.view_is told.fits,
+      subst (λ (live : Live g.row.D.Denot). HubFits g.D.Disk.view (opening_at live) (seen_by w) hub.shelf.value hub.tally.value) c.self.view_is told.fits,
       subst (λ (live : Live g.row.D.Denot). (k : ℕ) (p : SprigState) → v.part ≡ Some k → PartFits (opening_at live) (seen_by v) k p → PartFits (opening_at live) (seen_by w) k p)
           c.self.view_is told.still,
     )

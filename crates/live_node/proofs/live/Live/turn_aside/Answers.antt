@@ -40,7 +40,7 @@ give_alone-requires-clause-made g c =
     let call = turn_call raid.number (turn_of raid.next) c.args.now in
     let made = (took.ensures.makes (setup_at o) (state_at o (seen_by (view c.take_hub-hub.new.pass))) c.args.now (is_setup fits) hub.stands).makes in
     subst (λ (turn : Turn). (e : PartEvent) × HubStepFits view' o (seen_by (view c.take_hub-hub.new.pass)) (Is (turn_call turn.number (turn_of turn.next) turn.now) (λ a. a ≡ answer))
-    took.new.shelf c.take_hub-hub.result.tally e) (sym c.next_turn-turn.ensures)
+    took.new.shelf c.take_hub-hub.result.tally.value e) (sym c.next_turn-turn.ensures)
     (hub_step_fits fits call (λ a. a ≡ answer) took.new.shelf (none_own (setup_at o) call c.requires.aside) tt (took.ensures.geometry, took.ensures.limits) took.ensures.honest (
       answer,
       refl,
@@ -69,7 +69,7 @@ returns-clause-turn g c =
     let answer = turn_answer took.result in
     let turn = c.next_turn-turn.result in
     let gave = c.give_alone.ensures.once in
-    let tally = c.take_hub-hub.result.tally in
+    let tally = c.take_hub-hub.result.tally.value in
     let behind = answers_behind view' o v0 v1 v2 (Is (turn_call turn.number (turn_of turn.next) turn.now) (λ a. a ≡ answer)) c.take_hub-hub.ensures.right gave.0 in
     let all = subst (λ (t : Turn). (by : AnswersBy view' o v0 v2 (Is (turn_call t.number (turn_of t.next) t.now) (λ a. a ≡ answer))) × (by.past ≡ seen_by v1)) c.next_turn-turn.ensures
     (behind.0, behind.1 ∙ gave.1) in

@@ -1,7 +1,9 @@
-use Rattle.std.proofs.Common.{◌≡◌, ℕ, ◌<◌, List, [], refl, sym, subst, ◌∙◌, arith}
+use Rattle.std.proofs.Common.{◌≡◌, ℕ, ◌<◌, List, [], refl, ap, sym, subst, ◌∙◌, arith}
 use Rattle.disk_model.specs.Disk.{IsHonest}
 use Rattle.model_device.specs.Events.{Event, turn_call}
 use Rattle.raid_book.specs.Turns.{turn_of}
+use Rattle.sprig_tree.specs.declared.tally.Tally.{Tally}
+use Rattle.sprig_tree.specs.Tallies.{parted}
 use Rattle.shard_raid.specs.Turns.{turn_answer}
 use Rattle.turn_table.specs.Passes.{view}
 use Rattle.live_node.specs.declared.raid.Turn.{Turn}
@@ -45,11 +47,11 @@ give_step-requires-clause-made g c =
     let answer = turn_answer took.result in
     let raid = c.args.raid.now in
     subst (λ (turn : Turn). (e : PartEvent) × StepFits view' o (seen_by (view c.take_hub-hub.new.pass)) (Is (turn_call turn.number (turn_of turn.next) turn.now) (λ a. a ≡ answer)) c.args.part
-    took.new.shelf c.plus-hub.result took.new.sprig e) (sym c.next_turn-turn.ensures)
-    (step_fits fits (λ _. c.args.part) c.args.part (turn_call raid.number (turn_of raid.next) c.args.now) (λ a. a ≡ answer) sprig took.new.sprig took.new.shelf c.plus-hub.result
+    took.new.shelf c.plus.result took.new.sprig e) (sym c.next_turn-turn.ensures)
+    (step_fits fits (λ _. c.args.part) c.args.part (turn_call raid.number (turn_of raid.next) c.args.now) (λ a. a ≡ answer) sprig took.new.sprig took.new.shelf c.plus.result
     refl c.requires.part tt (took.ensures.geometry, took.ensures.limits) (λ honest. subst (λ (d : _). IsHonest (view' d)) (sym took.ensures.disk) honest) sprig_fits
-    (counts_by c.take_hub-hub.result.tally c.tally-before.result c.tally.result c.minus.result c.plus-hub.result c.args.part sprig took.new.sprig
-    c.tally-before.ensures c.tally.ensures c.minus.ensures c.plus-hub.ensures (omega arith) (omega arith) (omega arith))
+    (counts_by c.take_hub-hub.result.tally.value c.tally-before.result c.tally.result c.minus.result c.plus.result c.args.part sprig took.new.sprig
+    c.tally-before.ensures c.tally.ensures (c.minus.ensures ∙ ap (λ (t : Tally). parted t c.tally-before.result) c.deref.ensures) c.plus.ensures (omega arith) (omega arith) (omega arith))
     (λ x s is stand. (answer, refl, (took.ensures.makes x s c.args.part c.requires.part is.of_shelf is.raid_age stand).makes)))
 
 pub returns-clause-turn : goal.returns-clause-turn
@@ -68,6 +70,6 @@ returns-clause-turn g c =
     let all = subst (λ (t : Turn). (by : AnswersBy view' o v0 v4 (Is (turn_call t.number (turn_of t.next) t.now) (λ a. a ≡ answer))) × (by.past ≡ seen_by v2)) c.next_turn-turn.ensures
     (between.0, between.1 ∙ gave.1) in
     turn_shown view' o v0 v4 c.args.now raid took.new.raid took.result all.0
-    c.deref_mut.result.now c.take_hub-hub.result.tally (subst (λ (l : List Event). HubFits view' o l c.deref_mut.result.now c.take_hub-hub.result.tally) (sym all.1) (by_lent c.deref_mut.ensures.value c.take_hub-hub.ensures.fits))
-    took.new.shelf c.plus-hub.result (subst (λ (l : List Event). HubFits view' o l took.new.shelf c.plus-hub.result) (sym c.give_part.ensures.seen) c.give_step.ensures.hub)
+    c.deref_mut.result.now c.take_hub-hub.result.tally.value (subst (λ (l : List Event). HubFits view' o l c.deref_mut.result.now c.take_hub-hub.result.tally.value) (sym all.1) (by_lent c.deref_mut.ensures.value c.take_hub-hub.ensures.fits))
+    took.new.shelf c.plus.result (subst (λ (l : List Event). HubFits view' o l took.new.shelf c.plus.result) (sym c.give_part.ensures.seen) c.give_step.ensures.hub)
     took.ensures.taken (λ other. (took.ensures.stale other).0) took.ensures.follows took.ensures.kept
