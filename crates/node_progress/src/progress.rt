@@ -76,7 +76,9 @@ impl<E: Eprint + IsTerminal + Drop> Progress<E> {
 
     /// What is asked for is served from here on, so the calls of a watched disk are told no more.
     pub fn begin(&self) {
-        self.begun.store(true, Ordering::SeqCst);
+        if !self.has_begun() {
+            self.begun.store(true, Ordering::SeqCst);
+        }
     }
 
     /// Whether it has begun.
