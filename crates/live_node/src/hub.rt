@@ -12,8 +12,8 @@ use disk_model::Disk;
 use rec_format::Counts;
 use std::alloc::{AllocFailed, Global};
 
-/// The shelf of a device, and how many records, tombstones and covered records there are. Both lie in boxes, so a hub is moved by two words, and a slot of
-/// the table needs no more room than a sprig.
+/// The shelf of a device, and how many records, tombstones and covered records there are. Both lie in boxes, so a hub is moved by two words, and the
+/// largest that lies in a slot of the table is a sprig.
 #[derive(Drop)]
 pub struct Hub<D: Disk> {
     pub(crate) shelf: Box<Shelf<D>>,

@@ -1,5 +1,5 @@
 -- What a pass is after a step: a pass of its table, with the fields that its view says.
-use Rattle.std.proofs.Common.{◌≡◌, ℕ, ◌+◌, ◌<◌, true, false, List, [], ◌∷◌, Option, Some, None, ◌++◌, replicate, refl, sym, ap, ◌∙◌, subst, arith, append_assoc, append-nil}
+use Rattle.std.proofs.Common.{◌≡◌, ℕ, suc, ◌+◌, ◌<◌, true, false, List, [], ◌∷◌, Option, Some, None, ◌++◌, replicate, refl, sym, ap, ◌∙◌, subst, arith, append_assoc, append-nil}
 use Rattle.std.proofs.lemmas.List.{replicate_more}
 use Rattle.std.specs.Prelude.{IsSomeAnd}
 use mathlib.Core.List.{IsPrefix}
@@ -128,6 +128,11 @@ module _ {E O : Type 0} where
         is ∙ ap (with_found_out k) waits ∙ ap (λ l. having_found_out l v) (sym found),
         (waited.0 + 1, found ∙ ap (λ l. l ++ k ∷ []) waited.1 ∙ append_assoc v.found_out (replicate waited.0 k) (k ∷ []) ∙ ap (λ l. v.found_out ++ l) (replicate_more waited.0 k)),
       )
+
+  pub waited_once : (k : ℕ) (v w x : View E O) → w ≡ with_found_out k v → HasWaited k w x → HasWaited k v x
+  waited_once k v w x is waited =
+      let found : w.found_out ≡ v.found_out ++ k ∷ [] = ap (λ (y : View E O). y.found_out) is in
+      (suc waited.0, waited.1 ∙ ap (λ l. l ++ replicate waited.0 k) found ∙ append_assoc v.found_out (k ∷ []) (replicate waited.0 k))
 
   pub waited_none : (k : ℕ) (v : View E O) → (v ≡ having_found_out v.found_out v) × HasWaited k v v
   waited_none k v = (refl, (0, sym (append-nil v.found_out)))

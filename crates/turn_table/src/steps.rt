@@ -59,6 +59,24 @@ impl<M: Machine> Table<M> {
         ensures seen { SeesMore M.may_follow (view pass.old) (view pass.new) }
         ensures fits { M.part_fits (opening_of self.now) (events (seen pass.new)) part result }
     {
+        match self.try_part(pass, part) {
+            Some(value) => value,
+            None => self.wait_for_part(rt, pass, part),
+        }
+    }
+
+    // Takes the part when it comes home. Few calls come here, so the code of those that find it at home stays short.
+    #[cold]
+    #[inline(never)]
+    fn wait_for_part<R: Wait>(&self, rt: &R, pass: &mut Pass<M>, part: u32) -> M::Part
+        requires pass { IsPassOf self.now pass.old × HoldsNothing pass.old }
+        requires part { part < part_count self.now }
+        ensures numbers { KeepsNumbers pass.old pass.new }
+        ensures pass { IsPassOf self.now pass.new × (view pass.new ≡ with_part part (seen pass.new) (having_found_out (found_out pass.new) (view pass.old))) }
+        ensures waited { HasWaited part (view pass.old) (view pass.new) }
+        ensures seen { SeesMore M.may_follow (view pass.old) (view pass.new) }
+        ensures fits { M.part_fits (opening_of self.now) (events (seen pass.new)) part result }
+    {
         for _ in rt.forever() {
             if let Some(value) = self.try_part(pass, part) {
                 return value;
@@ -101,6 +119,29 @@ impl<M: Machine> Table<M> {
 
     /// Takes the hub, and waits as long as it is out. The pass may hold a part. The hub fits what the pass has then seen.
     pub fn take_hub<R: Wait>(&self, rt: &R, pass: &mut Pass<M>) -> M::Hub
+        requires { IsPassOf self.now pass.old × (holds_hub pass.old ≡ false) }
+        ensures numbers { KeepsNumbers pass.old pass.new }
+        ensures pass { IsPassOf self.now pass.new × (view pass.new ≡ with_hub (seen pass.new) (having_found_out (found_out pass.new) (view pass.old))) }
+        ensures waited { HasWaited (part_count self.now) (view pass.old) (view pass.new) }
+        ensures seen { SeesMore M.may_follow (view pass.old) (view pass.new) }
+        ensures fits { M.hub_fits (opening_of self.now) (events (seen pass.new)) result }
+
+        // No event that was not seen before names the part that the pass holds.
+        ensures quiet { (k : ℕ) → held_part pass.old ≡ Some k → IsQuietSince M.part_named k (seen pass.old) (seen pass.new) }
+
+        // So what fitted as that part fits still.
+        ensures still { (k : ℕ) (p : M.Part) → held_part pass.old ≡ Some k → M.part_fits (opening_of self.now) (events (seen pass.old)) k p → M.part_fits (opening_of self.now) (events (seen pass.new)) k p }
+    {
+        match self.try_hub(pass) {
+            Some(value) => value,
+            None => self.wait_for_hub(rt, pass),
+        }
+    }
+
+    // Takes the hub when it comes home.
+    #[cold]
+    #[inline(never)]
+    fn wait_for_hub<R: Wait>(&self, rt: &R, pass: &mut Pass<M>) -> M::Hub
         requires { IsPassOf self.now pass.old × (holds_hub pass.old ≡ false) }
         ensures numbers { KeepsNumbers pass.old pass.new }
         ensures pass { IsPassOf self.now pass.new × (view pass.new ≡ with_hub (seen pass.new) (having_found_out (found_out pass.new) (view pass.old))) }

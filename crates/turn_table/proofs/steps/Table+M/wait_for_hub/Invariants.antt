@@ -1,7 +1,7 @@
 use Rattle.std.proofs.Common.{◌≡◌}
 use Rattle.turn_table.specs.Passes.{view, found_out, IsPassOf, KeepsNumbers, part_count}
 use Rattle.turn_table.specs.Plays.{having_found_out, HasWaited}
-use Rattle.turn_table.proofs.steps.Table+M.take_hub.Given as goal
+use Rattle.turn_table.proofs.steps.Table+M.wait_for_hub.Given as goal
 
 abbrev pub invariant-loop : goal.invariant-loop
 invariant-loop g l = record {
