@@ -1,7 +1,7 @@
 -- Steps of the loops over chunks of sixteen bytes.
 use Rattle.std.proofs.Common.{◌≡◌, ℕ, zero, suc, ◌+◌, ◌-◌, ◌*◌, ◌/◌, ◌%◌, ◌<◌, ◌≤◌, List, [], ◌∷◌, ◌++◌, length, take, drop, slice_index, Option, Some, None, unwrap_or, Result, Ok, Err}
 use Rattle.std.proofs.Common.{refl, sym, ap, ◌∙◌, arith, true, ltb}
-use Rattle.std.specs.Prelude.{MatchOption, MatchResult, IsOk, is_ok, if◌then◌else◌}
+use Rattle.std.specs.Prelude.{MatchOption, MatchResult}
 use Rattle.std.specs.Str.{IsAscii}
 use Rattle.std.proofs.lemmas.List.{length-drop}
 use Rattle.std.proofs.lemmas.List.{append-nil, drop_all, append_assoc, length-take-le, take_all, take-take}
@@ -57,18 +57,12 @@ encode_step t bytes text written at step fits short long e inv =
     ∙ ap (λ w. take (2 * at) text ++ (w ++ encode_with t (drop (at + step) bytes))) part
     ∙ ap (λ r. take (2 * at) text ++ r) (sym split) ∙ inv
 
--- a piece is put behind the text
-pub put_step : (t bytes text written all : List ℕ) (at count : ℕ) → written ≡ encode_with t (chunk at count bytes)
-    → text ++ encode_with t (drop at bytes) ≡ all → (text ++ written) ++ encode_with t (drop (at + count) bytes) ≡ all
-put_step t bytes text written all at count e inv =
-    let rest : List ℕ = encode_with t (drop (at + count) bytes) in
-    let split = ap (encode_with t) (chunk-drop at count bytes) ∙ encode_with-append t (chunk at count bytes) (drop (at + count) bytes) in
-    append_assoc text written rest ∙ ap (λ w. text ++ (w ++ rest)) e ∙ ap (λ r. text ++ r) (sym split) ∙ inv
-
--- behind all of the bytes nothing is to be put
-pub put_all : (t bytes text all : List ℕ) (at : ℕ) → length bytes ≤ at → text ++ encode_with t (drop at bytes) ≡ all → text ≡ all
+-- no byte is left, so the text is whole
+pub encode_all : (t bytes text : List ℕ) (at : ℕ) → at ≡ length bytes → length text ≡ 2 * length bytes
+    → take (2 * at) text ++ encode_with t (drop at bytes) ≡ encode_with t bytes → text ≡ encode_with t bytes
 unfolding encode_with
-put_all t bytes text all at past inv = sym (append-nil text) ∙ ap (λ r. text ++ encode_with t r) (sym (drop_all at bytes past)) ∙ inv
+encode_all t bytes text at all long inv =
+    sym (append-nil text) ∙ ap (λ f. f ++ []) (sym (take_all (2 * at) text (omega arith))) ∙ ap (λ r. take (2 * at) text ++ encode_with t r) (sym (drop_all at bytes (omega arith))) ∙ inv
 
 -- ---- bytes of chunks
 
@@ -206,6 +200,15 @@ decode_end text bytes tail at n r long room left inv told ok =
     let far : decode_pairs (2 * at) rest ≡ Ok tail = read_from (decode_pairs (2 * at) rest) tail (any_place (2 * at) 0 rest ∙ ap read_of near) in
     decode_of-even text (omega arith) ∙ inv ∙ ap (prepend (take at bytes)) far
 
+-- the text is read where no bytes are left
+pub decode_all : (text bytes : List ℕ) (at : ℕ) → length text ≡ 2 * length bytes → at ≡ length bytes
+    → decode_pairs 0 text ≡ prepend (take at bytes) (decode_pairs (2 * at) (drop (2 * at) text)) → decode_of text ≡ Ok bytes
+unfolding decode_pairs
+decode_all text bytes at long all inv =
+    let none : drop (2 * at) text ≡ [] = drop_all (2 * at) text (omega arith) in
+    decode_of-even text (omega arith) ∙ inv ∙ ap (λ r. prepend (take at bytes) (decode_pairs (2 * at) r)) none
+    ∙ ap Ok (append-nil (take at bytes) ∙ take_all at bytes (omega arith))
+
 -- ---- digits are text
 
 ascii_from_test : (xs : List ℕ) → all_below 128 xs ≡ true → IsAscii xs
@@ -216,9 +219,3 @@ ascii_from_test (x ∷ rest) h =
 
 pub IsAscii-lower_digits : IsAscii lower_digits
 IsAscii-lower_digits = ascii_from_test lower_digits refl
-
--- ---- what an extension within the room gives
-
-pub extended : {X E : Type 0} (result : Result Unit E) (with_more before after : X) → after ≡ (if is_ok result then with_more else before) → IsOk result → after ≡ with_more
-extended (Ok done) with_more before after is ok = is
-extended (Err e) with_more before after is ok = cc ok

@@ -17,9 +17,6 @@ use std::simd::prelude::*;
 // How many bytes are written or read at a time.
 const BYTES: usize = 16;
 
-// The digits of how many bytes are put behind a text at a time.
-const PIECE: usize = 64;
-
 // How far the second chunk of so many bytes begins behind the first. It laps over the first, so that the last chunk ends where the bytes do.
 fn first_step(count: usize) -> usize
     requires { count < 2 ^ 63 }
@@ -41,25 +38,22 @@ fn encode_into(bytes: &[u8], text: &mut [u8])
         at += step;
         step = BYTES;
     }
+    if at == bytes.len() {
+        return;
+    }
     let (_, rest) = text.split_at_mut(2 * at);
     let _ = hex::encode_to_slice(&bytes[at..], rest);
 }
 
-// Puts the digits of the bytes behind the text, for which it has room.
+// Puts the digits of the bytes behind the text, for which it has room. Zeros are put there first, in less time than digits would be copied.
 fn put_digits(bytes: &[u8], text: &mut Vec<u8>)
     requires { vec_len text.old + 2 * length bytes.now ≤ vec_capacity text.old }
     ensures { text.new.items ≡ text.old.items ++ encode_lower bytes.now }
 {
-    let mut digits = [0; 2 * PIECE];
-    let mut at = 0;
-    'pieces: while bytes.len() - at >= PIECE {
-        encode_into(&bytes[at..at + PIECE], &mut digits);
-        let _ = text.extend_from_slice(&digits);
-        at += PIECE;
-    }
-    let (digits, _) = digits.split_at_mut(2 * (bytes.len() - at));
-    encode_into(&bytes[at..], digits);
-    let _ = text.extend_from_slice(digits);
+    let start = text.len();
+    let _ = text.resize(start + 2 * bytes.len(), 0);
+    let (_, digits) = text.as_mut_slice().split_at_mut(start);
+    encode_into(bytes, digits);
 }
 
 /// At `Ok` the hex digits of the bytes stand behind what was in `text`, in lower case and the high half of each byte first.
@@ -102,6 +96,9 @@ pub fn decode_into(text: &[u8], bytes: &mut [u8]) -> Result<(), FromHexError>
         bytes_of(halves).copy_to_slice(&mut bytes[at..]);
         at += step;
         step = BYTES;
+    }
+    if at == bytes.len() {
+        return Ok(());
     }
     let (_, rest) = bytes.split_at_mut(at);
     match hex::decode_to_slice(&text[2 * at..], rest) {

@@ -6,7 +6,7 @@ use Rattle.line_proto.specs.Lines.{reply_text}
 
 -- how many bytes of replies are collected before they are handed on
 abbrev pub reply_room : ℕ
-reply_room = 49152
+reply_room = 60000
 
 -- Of the text the first bytes are written, and at Ok all but the rest.
 pub record Sends {E : Type 0} (text rest : List ℕ) (written written' : Option (List ℕ)) (result : Result Unit E) : Type 0 where

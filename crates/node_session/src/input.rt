@@ -130,7 +130,7 @@ fn serve<T: Store, L: Source + Sink, C: Clock>(
 /// halted, a fault or want of memory stopped it, or `limit` bytes were taken. Each line is answered in order, and the store
 /// is tended after each line but `quit` and one that it halted at, also where the reply could not be printed. The replies are
 /// handed on together, which is that they are written and the link is flushed: before more is read, at the end, and as soon
-/// as they have 49,152 bytes.
+/// as they have 60,000 bytes.
 pub fn session<T: Store, L: Source + Sink, C: Clock>(
     alloc: Global,
     store: &mut T,

@@ -11,9 +11,9 @@ use line_proto::{NoMemory, Reply, print_reply};
 use std::alloc::Global;
 use std::marker::Model;
 
-// How many bytes are collected before they are handed on: three quarters of what a pipe of Linux takes at once, so that they fit in it with the reply that
-// comes last.
-const REPLY_ROOM: usize = 49_152;
+// How many bytes are collected before they are handed on. A pipe of Linux takes 65,536 at once, so they fit in it with the reply that comes last, where that
+// has at most 5,537; of replies to payloads of 10,000 bytes three fit.
+const REPLY_ROOM: usize = 60_000;
 
 // How much room is kept for later replies. Those with payloads of at most 32,700 bytes never take more.
 const KEPT_ROOM: usize = 262_144;
@@ -72,7 +72,7 @@ impl Replies {
         Ok(())
     }
 
-    /// At `Ok` fewer than 49,152 bytes wait: where they were as many or more, all of the text was handed on, as by `hand_on`.
+    /// At `Ok` fewer than 60,000 bytes wait: where they were as many or more, all of the text was handed on, as by `hand_on`.
     pub fn make_room<K: Sink>(&mut self, link: &mut K) -> Result<(), SinkFault>
         ensures bytes { Sends self.old self.new (K.written link.old) (K.written link.new) result }
         ensures handed { OnOk result (AllHandedOn (K.written link.old) (K.written link.new) (K.handed link.old) (K.handed link.new)) }

@@ -4,7 +4,7 @@
 //! Aerospike's, by its documentation.
 #![tactic(auto)]
 
-ghost use Rattle.std.specs.Prelude.{◌≡◌, ◌<◌, ◌≤◌};
+ghost use Rattle.std.specs.Prelude.{◌≡◌, ◌/◌, ◌%◌, ◌<◌, ◌≤◌};
 ghost use Rattle.rec_format.specs.Places.{partition_number, sprig_number, device_number, part_number_of, part_count};
 ghost use Rattle.partition_map.specs.Parts.{NamesOnePart, AllAreParts};
 
@@ -29,7 +29,10 @@ pub fn sprig_of(digest: &Digest, sprigs: u32) -> u32
     ensures value { result ≡ sprig_number sprigs digest.now }
     ensures below { result < sprigs }
 {
-    (u32::from(digest.0[2]) + 256 * u32::from(digest.0[3])) % sprigs
+    remainder(
+        u32::from(digest.0[2]) + 256 * u32::from(digest.0[3]),
+        sprigs,
+    )
 }
 
 /// The device that has the partition of a digest: below `devices`, among which the partitions are
@@ -40,7 +43,7 @@ pub fn device_of(digest: &Digest, devices: u16) -> u16
     ensures value { result ≡ device_number devices digest.now }
     ensures below { result < devices }
 {
-    (partition_of(digest) % u32::from(devices)) as u16
+    remainder(partition_of(digest), u32::from(devices)) as u16
 }
 
 /// The part of a digest on its device: below `parts_of` of that device.
@@ -55,7 +58,7 @@ pub fn part_number(digest: &Digest, sprigs: u32, devices: u16) -> u32
     // It is the part of the digests of this partition and sprig, and of no others on the device.
     ensures one { NamesOnePart devices sprigs digest.now result }
 {
-    partition_of(digest) / u32::from(devices) * sprigs + sprig_of(digest, sprigs)
+    quotient(partition_of(digest), u32::from(devices)) * sprigs + sprig_of(digest, sprigs)
 }
 
 /// How many parts a device has: as many as it has partitions, times the sprigs of each.
@@ -72,4 +75,39 @@ pub fn parts_of(device: u16, devices: u16, sprigs: u32) -> u32
 {
     let partitions = (PARTITIONS - 1 - u32::from(device)) / u32::from(devices) + 1;
     partitions * sprigs
+}
+
+// How often `by` goes into the number. Every call on a record divides, and nothing behind it begins before: by a power of two, as most
+// nodes are set, it is a shift, where a division takes some thirty times as long.
+fn quotient(number: u32, by: u32) -> u32
+    requires { 1 ≤ by }
+    ensures { result ≡ number / by }
+{
+    match by {
+        1 => number,
+        2 => number / 2,
+        4 => number / 4,
+        8 => number / 8,
+        16 => number / 16,
+        _ => number / by,
+    }
+}
+
+// What `quotient` leaves over. By a power of two it is a mask.
+fn remainder(number: u32, by: u32) -> u32
+    requires { 1 ≤ by }
+    ensures { result ≡ number % by }
+{
+    match by {
+        1 => 0,
+        2 => number % 2,
+        4 => number % 4,
+        8 => number % 8,
+        16 => number % 16,
+        32 => number % 32,
+        64 => number % 64,
+        128 => number % 128,
+        256 => number % 256,
+        _ => number % by,
+    }
 }

@@ -65,7 +65,7 @@ impl<M: Machine> Table<M> {
         }
     }
 
-    // Takes the part when it comes home. Few calls come here, so the code of those that find it at home stays short.
+    // Takes the part when it comes home. It stands apart, so that the code of a call that finds it at home stays short.
     #[cold]
     #[inline(never)]
     fn wait_for_part<R: Wait>(&self, rt: &R, pass: &mut Pass<M>, part: u32) -> M::Part

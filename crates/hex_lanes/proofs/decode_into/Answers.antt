@@ -1,7 +1,7 @@
 use Rattle.std.proofs.Common.{arith, length, refl, ◌*◌, ◌≡◌}
 use Rattle.std.proofs.lemmas.List.{take_rest}
 use Rattle.std.proofs.lemmas.Simd.{length-put_chunk}
-use Rattle.hex_lanes.proofs.Chunks.{decode_end, decode_step}
+use Rattle.hex_lanes.proofs.Chunks.{decode_all, decode_end, decode_step}
 use Rattle.hex_lanes.proofs.decode_into.Goals as goal
 
 pub chunks-preserved : goal.chunks-preserved
@@ -18,6 +18,9 @@ chunks-preserved c =
       rw c.bytes_of.ensures
           (decode_step c.args.text.now c.chunks.bytes halves c.chunks.at c.chunks.step (omega arith) c.chunks.invariant.2 long c.halves_of-halves.ensures size small c.chunks.invariant.4),
     )
+
+pub returns-then-at-bytes : goal.returns-then-at-bytes
+returns-then-at-bytes c = rw (decode_all c.args.text.now c.chunks.bytes c.chunks.at c.chunks.invariant.3 c.if-at-bytes.true c.chunks.invariant.4) (refl, refl)
 
 pub returns-in-Ok : goal.returns-in-Ok
 returns-in-Ok c =
