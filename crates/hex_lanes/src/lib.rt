@@ -25,9 +25,10 @@ fn first_step(count: usize) -> usize
     (count + BYTES - 1) % BYTES + 1
 }
 
-// Writes the text of the bytes, in lower case.
+/// The text is the hex digits of the bytes then, in lower case and the high half of each byte first. Whatever stood in it is gone, and no
+/// memory is asked for. It has two bytes for each of them.
 #[inline(always)]
-fn encode_into(bytes: &[u8], text: &mut [u8])
+pub fn encode_into(bytes: &[u8], text: &mut [u8])
     requires { length text.old ≡ 2 * length bytes.now }
     ensures { text.new ≡ encode_lower bytes.now }
 {

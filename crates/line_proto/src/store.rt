@@ -1,10 +1,11 @@
 // What a session asks of a store.
-ghost use Rattle.std.specs.Prelude.{◌≢◌, ◌≤◌, ◌^◌, ℕ};
-ghost use Rattle.line_proto.specs.Lines.{IsInRange};
+ghost use Rattle.std.specs.Prelude.{◌≡◌, ◌≢◌, ◌≤◌, ◌^◌, ◌++◌, ℕ, true, false};
+ghost use Rattle.line_proto.specs.Lines.{IsInRange, reply_text};
 ghost use Rattle.line_proto.specs.declared.command.Command.{Command};
 ghost use Rattle.line_proto.specs.declared.reply.Reply.{Reply};
 
-use crate::{Command, Reply};
+use crate::{Command, Page, Reply};
+use rec_format::Digest;
 use std::alloc::Global;
 
 /// What carries out commands, and is tended after each line. What a command and a tending do, also to what a crash
@@ -34,6 +35,19 @@ pub trait Store: Drop {
     {
         let _ = room;
         self.act(alloc, command, now)
+    }
+
+    /// Prints the reply to a get behind the text of the page, and answers whether it did: a store may, that has the record in memory. Where it
+    /// didn't, nothing was done, and `act_in` answers the get.
+    fn print_get(&self, digest: &Digest, now: u64, page: &mut Page) -> bool
+        requires now { now ≤ 2 ^ 61 }
+        ensures printed { result ≡ true → (reply : Reply) × acts self.now (Command.Get digest.now) now reply self.now × (reply ≢ Reply.Halted) × (page.new ≡ page.old ++ reply_text reply) }
+        ensures not { result ≡ false → page.new ≡ page.old }
+    {
+        let _ = digest;
+        let _ = now;
+        let _ = page;
+        false
     }
 
     /// Does what is due after a line, whatever its reply.

@@ -1,3 +1,4 @@
 pub mod HandedOn
 pub mod Turns
 pub mod Session
+pub mod Answering

@@ -1,5 +1,5 @@
 // The replies that wait to be handed on.
-ghost use Rattle.std.specs.Prelude.{◌≡◌, ◌≢◌, ◌<◌, ◌≤◌, [], ◌++◌, length, IsOk, OnOk, OnErr};
+ghost use Rattle.std.specs.Prelude.{◌≡◌, ◌≢◌, ◌<◌, ◌≤◌, ◌^◌, [], ◌++◌, length, true, false, IsOk, OnOk, OnErr};
 ghost use Rattle.model_faults.specs.Counts.{IsCaused};
 ghost use Rattle.io_traits.specs.Sink.{AllHandedOn};
 ghost use Rattle.line_proto.specs.declared.reply.Reply.{Reply};
@@ -7,7 +7,7 @@ ghost use Rattle.line_proto.specs.Lines.{reply_text};
 ghost use Rattle.node_session.specs.HandedOn.{Sends, reply_room};
 
 use io_traits::{Sink, SinkFault};
-use line_proto::{NoMemory, Reply, print_reply};
+use line_proto::{Command, NoMemory, Page, Reply, Store, print_reply};
 use std::alloc::Global;
 use std::marker::Model;
 
@@ -21,7 +21,7 @@ const KEPT_ROOM: usize = 262_144;
 /// The texts of replies, one behind the other, that are to be handed on together.
 #[derive(Drop)]
 pub struct Replies {
-    text: Vec<u8>,
+    page: Page,
 }
 
 impl Model for Replies {
@@ -29,7 +29,7 @@ impl Model for Replies {
 
     ghost Value = { List ℕ };
 
-    ghost view = { λ r. r.text.items };
+    ghost view = { λ r. r.page };
 }
 
 impl Replies {
@@ -38,17 +38,29 @@ impl Replies {
         ensures { result ≡ [] }
     {
         Replies {
-            text: Vec::new(alloc),
+            page: Page::new(alloc),
         }
     }
 
     /// At `Ok` the text of the reply stands behind the others. An `Err` is want of memory, and changes nothing.
-    pub fn add(&mut self, alloc: Global, reply: &Reply) -> Result<(), NoMemory>
+    pub fn add(&mut self, reply: &Reply) -> Result<(), NoMemory>
         requires { reply.now ≢ Reply.Halted }
         ensures ok { OnOk result (self.new ≡ self.old ++ reply_text reply.now) }
         ensures err { OnErr result (self.new ≡ self.old) }
     {
-        print_reply(alloc, reply, &mut self.text)
+        print_reply(reply, &mut self.page)
+    }
+
+    /// Whether the store printed the reply to a command behind the others, as it may do to a get. Else nothing was done.
+    pub fn print_by<T: Store>(&mut self, store: &T, command: &Command, now: u64) -> bool
+        requires now { now ≤ 2 ^ 61 }
+        ensures printed { result ≡ true → (reply : Reply) × T.acts store.now command.now now reply store.now × (reply ≢ Reply.Halted) × (self.new ≡ self.old ++ reply_text reply) }
+        ensures not { result ≡ false → self.new ≡ self.old }
+    {
+        match command {
+            Command::Get(digest) => store.print_get(digest, now, &mut self.page),
+            _ => false,
+        }
     }
 
     /// At `Ok` all of the text is written and the link flushed, and collecting begins anew, in the room that there is; where
@@ -64,11 +76,11 @@ impl Replies {
         ensures taken { K.taken link.new ≡ K.taken link.old }
         ensures source_faults { K.source_faults link.new ≡ K.source_faults link.old }
     {
-        if self.text.is_empty() {
+        if self.page.is_empty() {
             return Ok(());
         }
-        send(link, &self.text)?;
-        empty(&mut self.text);
+        send(link, self.page.text())?;
+        self.page.clear(KEPT_ROOM);
         Ok(())
     }
 
@@ -85,20 +97,10 @@ impl Replies {
         ensures taken { K.taken link.new ≡ K.taken link.old }
         ensures source_faults { K.source_faults link.new ≡ K.source_faults link.old }
     {
-        if self.text.len() < REPLY_ROOM {
+        if self.page.len() < REPLY_ROOM {
             return Ok(());
         }
         self.hand_on(link)
-    }
-}
-
-// Lets go of the text. Its room stays, where it isn't more than is kept.
-fn empty(text: &mut Vec<u8>)
-    ensures { text.new.items ≡ [] }
-{
-    text.clear();
-    if text.capacity() > KEPT_ROOM {
-        text.shrink_to_fit();
     }
 }
 

@@ -1,9 +1,11 @@
 // One line's turn.
-ghost use Rattle.std.specs.Prelude.{◌≡◌, List, ℕ, ◌++◌, IfNone, IfSome, MatchBool, option_map};
+ghost use Rattle.std.specs.Prelude.{◌≡◌, ◌⊎◌, List, ℕ, ◌++◌, IfNone, IfSome, option_map};
 ghost use Rattle.line_proto.specs.declared.reply.Reply.{Reply};
 ghost use Rattle.line_proto.specs.Lines.{reply_text};
 ghost use Rattle.line_proto.specs.Stream.{as_end};
-ghost use Rattle.node_session.specs.Turns.{Answers, Quits, WholeTurn, StopsAtLine};
+ghost use Rattle.node_session.specs.Turns.{WholeTurn, StopsAtLine};
+ghost use Rattle.node_session.specs.Answering.{IsAnswered};
+ghost use Rattle.node_session.specs.declared.stop.Stop.{Stop};
 
 use crate::replies::Replies;
 use crate::stop::Stop;
@@ -16,33 +18,45 @@ const LATEST: u64 = 1 << 61;
 /// How much room for the payload of a put or a get is kept for later ones.
 const KEPT_ROOM: usize = 262_144;
 
-/// The reply to a line, which is none where it is too long, and whether the line was `quit`. The data of a put stand in the room meanwhile,
-/// and what is read of a payload takes it.
+/// How a line was answered.
+#[derive(Drop)]
+enum Answered {
+    /// The store printed the reply, which waits with the others.
+    Printed,
+    /// This is the reply, which is still to be printed.
+    Unprinted(Reply),
+    /// The line was `quit`, and the farewell is still to be printed.
+    Quit,
+}
+
+/// Answers a line, which is none where it is too long. The data of a put stand in the room meanwhile, and what is read of a payload takes it.
 fn answer<T: Store, C: Clock>(
     alloc: Global,
     store: &mut T,
     clock: &mut C,
     line: Option<&[u8]>,
     room: &mut Vec<u8>,
-) -> (Reply, bool)
-    ensures { MatchBool result.1
-        (Quits (as_end (option_map (λ bytes. bytes.now) line.entry)) store.old (C.times clock.old) result.0 store.new (C.times clock.new))
-        (Answers T.acts (as_end (option_map (λ bytes. bytes.now) line.entry)) store.old (C.times clock.old) result.0 store.new (C.times clock.new)) }
+    replies: &mut Replies,
+) -> Answered
+    ensures { IsAnswered T.acts (as_end (option_map (λ bytes. bytes.now) line.entry)) store.old (C.times clock.old) replies.old result store.new (C.times clock.new) replies.new }
 {
     let Some(bytes) = line else {
-        return (Reply::Fail(LineFault::Line), false);
+        return Answered::Unprinted(Reply::Fail(LineFault::Line));
     };
     match read_command_in(alloc, bytes, room) {
-        Err(_) => (Reply::Fail(LineFault::Memory), false),
-        Ok(None) => (Reply::Fail(LineFault::Line), false),
+        Err(_) => Answered::Unprinted(Reply::Fail(LineFault::Memory)),
+        Ok(None) => Answered::Unprinted(Reply::Fail(LineFault::Line)),
         Ok(Some(command)) => {
             let now = clock.now_ms().min(LATEST);
             if let Command::Quit = command {
-                return (Reply::Bye, true);
+                return Answered::Quit;
+            }
+            if replies.print_by(store, &command, now) {
+                return Answered::Printed;
             }
             let reply = store.act_in(alloc, room, &command, now);
             take_back(command, room);
-            (reply, false)
+            Answered::Unprinted(reply)
         }
     }
 }
@@ -68,15 +82,6 @@ fn take_back_read(reply: Reply, room: &mut Vec<u8>) {
     }
 }
 
-/// The tending after a line; `quit` has none.
-fn tend_unless<T: Store>(alloc: Global, store: &mut T, quits: bool)
-    ensures { MatchBool quits (store.new ≡ store.old) (T.tends store.old store.new) }
-{
-    if !quits {
-        store.tend(alloc);
-    }
-}
-
 /// At `None` the line was answered, the reply waits with the others, the store was tended, and the session goes on; else it
 /// stops at this line, and why it does is answered.
 pub fn turn<T: Store, C: Clock>(
@@ -94,18 +99,30 @@ pub fn turn<T: Store, C: Clock>(
         × StopsAtLine T.acts T.tends (as_end (option_map (λ bytes. bytes.now) line.entry)) store.old (C.times clock.old) last store.new (C.times clock.new) stop
         × (replies.new ≡ replies.old ++ last)) }
 {
-    let (reply, quits) = answer(alloc, store, clock, line, room);
-    if let Reply::Halted = reply {
-        return Some(Stop::Halted);
-    }
-    let added = replies.add(alloc, &reply);
+    let reply = match answer(alloc, store, clock, line, room, replies) {
+        Answered::Printed => {
+            store.tend(alloc);
+            return None;
+        }
+        Answered::Quit => return Some(farewell(replies)),
+        Answered::Unprinted(Reply::Halted) => return Some(Stop::Halted),
+        Answered::Unprinted(reply) => reply,
+    };
+    let added = replies.add(&reply);
     take_back_read(reply, room);
-    tend_unless(alloc, store, quits);
+    store.tend(alloc);
     if added.is_err() {
         return Some(Stop::Memory);
     }
-    if quits {
-        return Some(Stop::Quit);
-    }
     None
+}
+
+/// Takes the farewell up with the replies, and answers why the session stops.
+fn farewell(replies: &mut Replies) -> Stop
+    ensures { ((result ≡ Stop.Quit) × (replies.new ≡ replies.old ++ reply_text Reply.Bye)) ⊎ ((result ≡ Stop.Memory) × (replies.new ≡ replies.old)) }
+{
+    match replies.add(&Reply::Bye) {
+        Ok(()) => Stop::Quit,
+        Err(_) => Stop::Memory,
+    }
 }

@@ -7,7 +7,7 @@ ghost use Rattle.test_stores.specs.Trials.{IsMade, IsShare, IsStoreOf, HasRoom};
 
 use crate::tests::devices::{FALLING, NewDevice, RISING, ended, make_device, rejoined, share};
 use disk_model::MemDisk;
-use line_proto::{Command, Reply, Store, print_reply};
+use line_proto::{Command, Page, Reply, Store, print_reply};
 use live_node::{Live, LivePass};
 use live_store::LiveStore;
 use rec_format::{Bytes, Digest};
@@ -114,11 +114,11 @@ fn act<'a, R: Wait>(
 fn text_of(alloc: Global, reply: &Reply) -> Option<Vec<u8>>
     requires { reply.now ≢ Reply.Halted }
 {
+    let mut page = Page::new(alloc);
+    print_reply(reply, &mut page).ok()?;
     let mut text = Vec::new(alloc);
-    match print_reply(alloc, reply, &mut text) {
-        Ok(()) => Some(text),
-        Err(_) => None,
-    }
+    text.extend_from_slice(page.text()).ok()?;
+    Some(text)
 }
 
 // The text of the reply to a command.
