@@ -1,9 +1,10 @@
 -- What a node keeps over its calls, and what is seen of it.
-use Rattle.std.proofs.Common.{◌≡◌, inl, inr, ◌≤◌, ℕ, zero, suc, ◌+◌, List, [], ◌∷◌, length, set, refl, sym, ◌∙◌, ap, subst, arith}
+use Rattle.std.proofs.Common.{◌≡◌, inl, inr, ◌≤◌, ◌<◌, ℕ, zero, suc, ◌+◌, List, [], ◌∷◌, length, get_or, set, refl, sym, ◌∙◌, ap, subst, arith}
 use Rattle.std.specs.Prelude.{Option, Some, None, Result, Ok, Err, slice_get, Vec, vec_capacity}
 use Rattle.std.specs.Global.{Global}
 use Rattle.std.specs.Vec.{with_items}
 use Rattle.std.proofs.lemmas.List.{with_items_is}
+use Rattle.std.proofs.lemmas.Option.{slice_get-get_or}
 use Rattle.disk_model.specs.Disk.{DiskView, IsDisk}
 use Rattle.cold_scan.specs.declared.header.StartCause.{StartCause}
 use Rattle.block_format.specs.declared.geometry.Geometry.{Geometry}
@@ -166,6 +167,11 @@ module _ {D : Type 0} (set : Settings) (a b : ℕ) (shards : List (ShardView D))
           × AreDevices set 0 (length shards) shards
       by None none is = (is.1.1, is.1.2, is.1.3, is.1.4)
       by (Some why) none is = cc
+
+-- the device of a digest, as a call finds it
+pub device_there : {X : Type 0} (shards : List X) (n len device from : ℕ) (x : X) → len ≡ n → n ≡ length shards → device < len → from ≡ device → x ≡ get_or shards from x → slice_get shards from ≡ Some x
+device_there shards n len device from x len_is n_is below is value =
+    let within : from < length shards = omega (arith, len_is, n_is, below, is) in slice_get-get_or shards from x within ∙ ap (λ y. Some y) (sym value)
 
 -- a command of a node that serves before it and after it
 pub acts_so : {D : Type 0} (view : D → DiskView) (set : Settings) (a b : ℕ) (olds news : List (ShardView D)) (refused : Option (ℕ × StartCause)) (disks : List D) (self : NodeView D)

@@ -1,6 +1,5 @@
 -- Disks that were only read: time goes on, and what a crash leaves survives the states from before.
 use Rattle.std.proofs.Common.{◌≡◌, inl, ℕ, zero, suc, ◌+◌, ◌<◌, ◌≤◌, List, [], ◌∷◌, length, refl, sym, ap, subst, arith}
-use Rattle.std.proofs.Math.Nat.{le_refl}
 use Rattle.disk_model.specs.Disk.{DiskView, IsDisk}
 use Rattle.disk_model.specs.Runs.{OneOf, Leaves, leaves_none}
 use Rattle.model_device.specs.Book.{Setup}
@@ -13,6 +12,7 @@ use Rattle.cold_scan.specs.Starting.{FaultRose}
 use Rattle.shard_core.specs.declared.settings.Settings.{Settings}
 use Rattle.shard_core.specs.View.{ShardView}
 use Rattle.shard_core.specs.Again.{IsNoRefusal}
+use Rattle.shard_core.proofs.Looked.{only_same}
 use Rattle.model_node.specs.Commands.{Slot, Node}
 use Rattle.model_node.specs.Run.{SameStates, states_while}
 use Rattle.model_node.specs.Outside.{counts_of, RoseOn}
@@ -48,16 +48,7 @@ module _ {D : Type 0} (view : D → DiskView) where
 
   module _ (is_disk : (disk : D) → IsDisk (view disk)) where
     pub only_read : (disk : D) → OnlyRead (view disk) (view disk)
-    only_read disk = record {
-      time = (leaves_none (view disk).may_leave (view disk) (is_disk disk) (λ image left. left)).time;
-      later = le_refl (view disk).faults;
-      size = refl;
-      bytes = λ told. (told, refl);
-      honest = λ honest. honest;
-      was_honest = λ honest. honest;
-      was_told = λ told. told;
-      images = λ honest image left. (is_disk disk).now_alone image left;
-    }
+    only_read disk = only_same view disk (is_disk disk)
 
     read_none : (disks : List D) → ReadEach disks disks
     read_none [] = refl

@@ -1,15 +1,16 @@
 // A node over its devices.
-ghost use Rattle.std.specs.Prelude.{◌≡◌, ◌≢◌, ◌≤◌, ◌<◌, ◌^◌, None, ℕ, List, length, vec_len, IfOk, MatchOption, MatchResult, option_map};
+ghost use Rattle.std.specs.Prelude.{◌≡◌, ◌≢◌, ◌≤◌, ◌<◌, ◌^◌, ◌++◌, true, false, None, ℕ, List, length, vec_len, IfOk, MatchOption, MatchResult, option_map};
 ghost use Rattle.rec_format.specs.declared.version.Digest.{Digest};
 ghost use Rattle.rec_format.specs.Places.{device_number};
 ghost use Rattle.shard_core.specs.View.{IsSettings, ShardView};
-ghost use Rattle.line_proto.specs.Lines.{IsInRange};
+ghost use Rattle.line_proto.specs.Lines.{IsInRange, reply_text};
+ghost use Rattle.line_proto.specs.declared.reply.Reply.{Reply};
 ghost use Rattle.model_node.specs.Commands.{Slot, node_counts};
 ghost use Rattle.core_run.specs.Views.{serving, halted, disks_of, faults_of};
 ghost use Rattle.core_run.specs.Sure.{AreSureSince};
 ghost use Rattle.core_run.specs.Standing.{StandsFor};
 ghost use Rattle.core_run.specs.Starts.{StartsEach, RefusesAt};
-ghost use Rattle.core_run.specs.Turns.{RepliesOn, GoesOn};
+ghost use Rattle.core_run.specs.Turns.{GetsOn, GoesOn, RepliesOn};
 ghost use Rattle.core_run.specs.Calls.{Acts, Closes};
 ghost use Rattle.node_replies.specs.Digests.{digest_of};
 
@@ -19,7 +20,7 @@ use crate::devices::{
 use crate::raid::raid_each;
 use crate::starts::{start_all, stop_all};
 use disk_model::Disk;
-use line_proto::{Command, Reply, Store};
+use line_proto::{Command, Page, Reply, Store, print_version};
 use node_replies::{
     defrag_reply, delete_reply, digest_of, expire_reply, flush_reply, heal_reply, known_reply,
     raid_reply, read_reply, write_reply,
@@ -193,6 +194,22 @@ fn act_on<D: Disk>(
     }
 }
 
+// Whether the record that is seen of a digest of the device was printed behind the text of the page, out of a buffer in memory that has it. Else
+// nothing was done.
+fn print_on<D: Disk>(shard: &Shard<D>, digest: &Digest, now: u64, page: &mut Page) -> bool
+    requires place { device_number shard.now.shelf.geometry.devices digest.now ≡ shard.now.shelf.geometry.device }
+    ensures printed { result ≡ true → (reply : Reply) × GetsOn D.view shard.now digest.now now reply shard.now × (page.new ≡ page.old ++ reply_text reply) }
+    ensures not { result ≡ false → page.new ≡ page.old }
+{
+    let Some(version) = shard.look(digest, now) else {
+        return false;
+    };
+    match print_version(&version, page) {
+        Ok(()) => true,
+        Err(_) => false,
+    }
+}
+
 impl<D: Disk> Store for Node<D> {
     ghost use Rattle.core_run.specs.Calls.{Acts, Tends};
 
@@ -231,6 +248,15 @@ impl<D: Disk> Store for Node<D> {
             Command::Restart => self.restart(alloc),
             _ => unreachable!(),
         }
+    }
+
+    /// A record is printed out of a buffer in memory that has it: a write buffer, or a flushed one that is kept. Nothing changes.
+    fn print_get(&self, digest: &Digest, now: u64, page: &mut Page) -> bool {
+        if self.refused.is_some() {
+            return false;
+        }
+        let device = device_of(digest, self.shards.len() as u16);
+        print_on(&self.shards[usize::from(device)], digest, now, page)
     }
 
     /// What is refused on one device leaves it as `Shard::tend` does, and the next is tended all the same.

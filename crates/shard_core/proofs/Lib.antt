@@ -6,6 +6,7 @@ pub mod FlushLoop
 pub mod Committing
 pub mod Later
 pub mod Each
+pub mod Looked
 pub mod Making
 pub mod Found
 pub mod Seen

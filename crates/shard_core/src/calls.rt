@@ -1,5 +1,5 @@
 // The calls of a shard on one digest: each finds the digest's sprig, and takes its step over it and the shelf.
-ghost use Rattle.std.specs.Prelude.{◌≡◌, ◌⊎◌, ◌<◌, ◌≤◌, ◌^◌, true, false, Some, Contains, IsOk, IfErr, length};
+ghost use Rattle.std.specs.Prelude.{◌≡◌, ◌⊎◌, ◌<◌, ◌≤◌, ◌^◌, true, false, Some, Ok, Contains, IsOk, IfErr, IfSome, length};
 ghost use Rattle.disk_model.specs.Disk.{IsHonest};
 ghost use Rattle.rec_format.specs.declared.entry.Entry.{Entry};
 ghost use Rattle.rec_format.specs.Places.{device_number};
@@ -27,12 +27,12 @@ ghost use Rattle.shard_core.specs.Calls.{IsRefusedWrite, Makes, GetsStored, writ
 ghost use Rattle.shard_core.specs.Failing.{FailsBy};
 
 use crate::delete::{bury_step, delete_step};
-use crate::get::{get_step_in, meta_step};
+use crate::get::{get_step_in, look_step, meta_step};
 use crate::put::put_step;
 use crate::{Meta, ReadRefusal, Shard, WriteRefusal};
 use disk_model::Disk;
 use partition_map::part_number;
-use rec_format::{Digest, Stamp, Version};
+use rec_format::{Digest, Stamp, Version, VersionRef};
 use std::alloc::Global;
 
 impl<D: Disk> Shard<D> {
@@ -163,6 +163,21 @@ impl<D: Disk> Shard<D> {
             digest,
             now,
         )
+    }
+
+    /// The version that is seen of the digest, as `get` answers it, with its payload lent by the buffer in memory that has it: a write buffer, or
+    /// a flushed one that is kept. None where none is seen, and where no such buffer has its record; `get` tells more then. It takes no memory,
+    /// calls no disk, and changes nothing. `look_step` over the digest's sprig.
+    pub fn look(&self, digest: &Digest, now: u64) -> Option<VersionRef<'_>>
+        requires named { device_number self.now.shelf.geometry.devices digest.now ≡ self.now.shelf.geometry.device }
+        ensures whole { IsShelf D.view self.now.shelf × IsWhole self.now }
+
+        // So it is one get, which changes nothing.
+        ensures makes { (s : State) → Agrees self.now s → IfSome result (λ v. Makes D.view (get_call digest.now now) (read_answer (Ok (Some v))) self.now s self.now) }
+        ensures stored { IfSome result (λ v. GetsStored D.view self.now digest.now now (Ok (Some v))) }
+    {
+        let part = self.part_of(digest);
+        look_step(&self.sprigs[part], &self.shelf, digest, now)
     }
 
     /// The stamp, the void time and the units of the record that is seen at `now`, in milliseconds, by the index alone; none where none

@@ -1,5 +1,5 @@
 // Reads over the sprig of a digest: its record, from the shelf, and what is known of it without one.
-ghost use Rattle.std.specs.Prelude.{◌≡◌, ◌≤◌, ◌^◌, Some, Contains, IfErr};
+ghost use Rattle.std.specs.Prelude.{◌≡◌, ◌≤◌, ◌^◌, Some, Ok, Contains, IfErr, IfSome};
 ghost use Rattle.disk_model.specs.Disk.{IsHonest};
 ghost use Rattle.rec_format.specs.declared.entry.Entry.{Entry};
 ghost use Rattle.rec_format.specs.Places.{device_number};
@@ -23,7 +23,7 @@ use arena_sprig::Sprig;
 use block_shelf::Shelf;
 use disk_model::Disk;
 use expiry_rule::seen;
-use rec_format::{Digest, Stamp, Version};
+use rec_format::{Digest, Stamp, Version, VersionRef};
 use std::alloc::Global;
 
 /// What is known of a record without reading it: its stamp (last update time and generation), its void time, the second from which it is
@@ -116,6 +116,26 @@ pub fn get_step_in<D: Disk>(
         Ok(version) => Ok(Some(version)),
         Err(refusal) => Err(refusal),
     }
+}
+
+/// The version that is seen of the digest, as `get_step` answers it, with its payload lent by the buffer in memory that has it: a write buffer, or a
+/// flushed one that is kept. None where none is seen, and where no such buffer has its record. It takes no memory, calls no disk, and changes
+/// nothing.
+pub(crate) fn look_step<'a, D: Disk>(
+    sprig: &Sprig,
+    shelf: &'a Shelf<D>,
+    digest: &Digest,
+    now: u64,
+) -> Option<VersionRef<'a>>
+    requires stand { (setup : Setup) × (s : State) × StandTogether setup (part_of setup digest.now) sprig.now shelf.now s }
+    ensures makes { (setup : Setup) (s : State) → StandTogether setup (part_of setup digest.now) sprig.now shelf.now s
+        → IfSome result (λ v. StepMakes D.view setup (part_of setup digest.now) (get_call digest.now now) (read_answer (Ok (Some v))) shelf.now s sprig.now shelf.now) }
+    ensures stored { (setup : Setup) → IfSome result (λ v. ReadsStored D.view (StandTogether setup (part_of setup digest.now) sprig.now shelf.now)
+        (entry_of digest.now sprig.now.entries) shelf.now digest.now now (Ok (Some v))) }
+{
+    let found = sprig.find(digest);
+    let entry = seen(found.as_ref(), now)?;
+    shelf.look(place_of_entry(entry), entry)
 }
 
 /// The stamp, the void time and the units of the record that is seen at `now`, in milliseconds, by its sprig alone; none where none is

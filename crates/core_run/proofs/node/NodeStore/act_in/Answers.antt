@@ -1,6 +1,5 @@
-use Rattle.std.proofs.Common.{◌≡◌, ◌<◌, ◌≤◌, ℕ, List, length, get_or, set, arith, sym, subst, ap, ◌∙◌}
+use Rattle.std.proofs.Common.{◌≡◌, ◌<◌, ◌≤◌, ℕ, List, length, set, arith, sym, subst, ap, ◌∙◌}
 use Rattle.std.specs.Prelude.{Some, slice_get, option_map, vec_len, vec_capacity}
-use Rattle.std.proofs.lemmas.Option.{slice_get-get_or}
 use Rattle.law_lists.proofs.Answers.{not_some, is_there}
 use Rattle.disk_model.specs.declared.disk.DiskFault.{DiskFault}
 use Rattle.rec_format.specs.Places.{device_number}
@@ -13,7 +12,7 @@ use Rattle.core_run.specs.Standing.{Each, StandsOn}
 use Rattle.core_run.specs.Calls.{Acts}
 use Rattle.core_run.specs.Turns.{FlushesOn, FlushesEach, HealsOn, HealsEach, plus_one, DefragsOn, DefragsEach, plus_both, ExpiresOn, ExpiresAll, RaidsOn, RaidsEach}
 use Rattle.core_run.proofs.Commands.{digest_acts, flush_acts, heal_acts, defrag_acts, expire_acts, raid_acts, stat_acts, acts_halted}
-use Rattle.core_run.proofs.Keeping.{few_served, SameEach, all_kept, all_act, node_kept, node_halts, acts_so, same_all, devices_of, device_at, same_at}
+use Rattle.core_run.proofs.Keeping.{few_served, SameEach, all_kept, all_act, node_kept, node_halts, acts_so, same_all, devices_of, device_at, device_there, same_at}
 use Rattle.core_run.proofs.Keeping.{same_worked}
 use Rattle.core_run.proofs.node.NodeStore.act_in.Given.{Over}
 use Rattle.core_run.proofs.node.NodeStore.act_in.Goals as goal
@@ -112,11 +111,6 @@ pub restart-requires : goal.restart-requires
 restart-requires g c =
     let none = not_some c.self.inside.refused c.is_some.result c.is_some.ensures c.if-is_some.false in
     record { served = ap (λ (n : NodeView g.row.D.Denot). n.refused) (sym c.self.view_is) ∙ none }
-
--- the device of the digest
-device_there : {X : Type 0} (shards : List X) (n len device from : ℕ) (x : X) → len ≡ n → n ≡ length shards → device < len → from ≡ device → x ≡ get_or shards from x → slice_get shards from ≡ Some x
-device_there shards n len device from x len_is n_is below is value =
-    let within : from < length shards = omega (arith, len_is, n_is, below, is) in slice_get-get_or shards from x within ∙ ap (λ y. Some y) (sym value)
 
 pub act_on-requires-clause-place : goal.act_on-requires-clause-place
 act_on-requires-clause-place g c =
