@@ -9,7 +9,7 @@ use Rattle.std.specs.Simd.Lanes.{Each1, Each2, zip2, sel_l, top, pick_l, mask_l}
 use Rattle.std.specs.List.{range_with_len}
 use Rattle.hex.specs.Hex.{encode_with, hex_digit_value, lower_digits}
 use Rattle.hex_lanes.specs.Halves.{AreHalves, IsRead, joined}
-use Rattle.hex_lanes.specs.declared.lanes.TheConstants.{DIGITS}
+use Rattle.hex_lanes.specs.declared.lanes.TheConstants.{BELOW_TEN, DIGITS}
 use Rattle.hex_lanes.proofs.Every.{bytes_each, each_of_map, each_with_map, map_on, passes_at, passes_below}
 
 -- all lanes of sixteen, and of thirty-two, spelled out
@@ -27,9 +27,6 @@ plus a b = (a + b) % 2 ^ 8
 
 abbrev less : ℕ → ℕ → ℕ
 less a b = (a + (2 ^ 8 - b)) % 2 ^ 8
-
-abbrev flipped : ℕ → ℕ
-flipped a = 255 - a
 
 -- ---- digits of half bytes
 
@@ -110,26 +107,19 @@ abbrev figure : ℕ → ℕ
 figure c = less c 48
 
 abbrev letter : ℕ → ℕ
-letter c = less (bit_or c 32) 97
-
-abbrev past_letter : ℕ → ℕ
-past_letter x = plus x (cond (top 7 (below_mask 10 (flipped x))) 10 (flipped x))
+letter c = less (bit_or (less c 1) 32) BELOW_TEN
 
 abbrev half_lane : ℕ → ℕ
-half_lane c = cond (top 7 (below_mask (figure c) 10)) (figure c) (past_letter (letter c))
+half_lane c = cond (top 7 (below_mask (figure c) 10)) (figure c) (letter c)
 
 abbrev figures : List ℕ → List ℕ
 figures v = zip2 less v (replicate 32 48)
 
 abbrev letters : List ℕ → List ℕ
-letters v = zip2 less (zip2 bit_or v (replicate 32 32)) (replicate 32 97)
-
-abbrev past_letters : List ℕ → List ℕ
-past_letters xs =
-    zip2 plus xs (sel_l (map (top 7) (zip2 below_mask (replicate 32 10) (map flipped xs))) (replicate 32 10) (map flipped xs))
+letters v = zip2 less (zip2 bit_or (zip2 less v (replicate 32 1)) (replicate 32 32)) (replicate 32 BELOW_TEN)
 
 abbrev half_lanes : List ℕ → List ℕ
-half_lanes v = sel_l (map (top 7) (zip2 below_mask (figures v) (replicate 32 10))) (figures v) (past_letters (letters v))
+half_lanes v = sel_l (map (top 7) (zip2 below_mask (figures v) (replicate 32 10))) (figures v) (letters v)
 
 abbrev reads : ℕ → Option ℕ → Bool
 reads half None = nat_le 16 half

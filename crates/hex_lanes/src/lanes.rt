@@ -8,6 +8,9 @@ use std::simd::prelude::*;
 
 const DIGITS: [u8; 16] = *b"0123456789abcdef";
 
+// What lies as far below a digit `a`, less one, as ten lies above nought.
+const BELOW_TEN: u8 = b'a' - 1 - 10;
+
 // The digit of each half byte.
 #[inline(always)]
 fn digits_of(halves: u8x16) -> u8x16
@@ -39,10 +42,8 @@ pub(crate) fn halves_of(text: u8x32) -> u8x32
     ensures { Each2 IsRead text result }
 {
     let figure = text - u8x32::splat(b'0');
-    let letter = (text | u8x32::splat(0x20)) - u8x32::splat(b'a');
-    figure
-        .simd_lt(u8x32::splat(10))
-        .select(figure, letter.saturating_add(u8x32::splat(10)))
+    let letter = ((text - u8x32::splat(1)) | u8x32::splat(0x20)) - u8x32::splat(BELOW_TEN);
+    figure.simd_lt(u8x32::splat(10)).select(figure, letter)
 }
 
 #[inline(always)]
