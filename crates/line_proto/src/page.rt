@@ -2,8 +2,10 @@
 ghost use Rattle.std.specs.Prelude.{◌≡◌, ◌+◌, ◌*◌, ◌<◌, ◌≤◌, [], ◌∷◌, ◌++◌, length, take, OnOk, OnErr, IsTrue, ◌↔◌};
 ghost use Rattle.std.specs.Vec.{vec_len};
 ghost use Rattle.hex.specs.Hex.{encode_lower};
+ghost use Rattle.line_proto.specs.Printing.{spaced};
 
 use crate::NoMemory;
+use itoa::Buffer;
 use std::alloc::Global;
 use std::marker::Model;
 
@@ -96,6 +98,21 @@ impl Page {
         make_room(&mut self.bytes, self.used, 1)?;
         put_byte_at(self.bytes.as_mut_slice(), self.used, byte);
         self.used += 1;
+        Ok(())
+    }
+
+    /// At `Ok` a space and the number in decimal stand behind the text, for which room is looked for once. An `Err` is want of memory, and changes
+    /// nothing.
+    pub fn put_number(&mut self, number: u64) -> Result<(), NoMemory>
+        ensures ok { OnOk result (self.new ≡ self.old ++ spaced number) }
+        ensures err { OnErr result (self.new ≡ self.old) }
+    {
+        let mut buffer = Buffer::new();
+        let digits = buffer.format(number).as_bytes();
+        make_room(&mut self.bytes, self.used, 1 + digits.len())?;
+        put_byte_at(self.bytes.as_mut_slice(), self.used, b' ');
+        put_at(self.bytes.as_mut_slice(), self.used + 1, digits);
+        self.used += 1 + digits.len();
         Ok(())
     }
 

@@ -6,7 +6,6 @@ ghost use Rattle.line_proto.specs.Lines.{reply_text, data_text, words_line};
 ghost use Rattle.line_proto.specs.Printing.{GoesOn, spaced};
 
 use crate::{LineFault, NoMemory, Page, Reply};
-use itoa::Buffer;
 use rec_format::{Counts, Stamp, VersionRef};
 
 fn put(text: &[u8], page: &mut Page) -> Result<(), NoMemory>
@@ -28,9 +27,7 @@ fn put_number(number: u64, page: &mut Page) -> Result<(), NoMemory>
     ensures ok { OnOk result (page.new ≡ page.old ++ spaced number) }
     ensures kept { GoesOn page.old page.new }
 {
-    let mut buffer = Buffer::new();
-    put_byte(b' ', page)?;
-    put(buffer.format(number).as_bytes(), page)
+    page.put_number(number)
 }
 
 fn put_numbers(numbers: &[u64], page: &mut Page) -> Result<(), NoMemory>
