@@ -22,14 +22,11 @@ use Rattle.block_shelf.specs.Keeping.{KeepsAll}
 use Rattle.block_shelf.specs.Flushes.{FirstLeaves, FirstStays, with_disk, with_opening}
 use Rattle.defrag_pass.specs.declared.refusal.MoveRefusal.{MoveRefusal}
 use Rattle.defrag_pass.specs.declared.refusal.MoveRefusal.TheVariants as why
-use Rattle.defrag_pass.specs.Moves.{IsShelfLeft, KeepsMoved, OnlyReads}
-use Rattle.shard_core.specs.declared.refusals.WriteRefusal.{WriteRefusal}
-use Rattle.shard_core.specs.declared.refusals.WriteRefusal.TheVariants as write
-use Rattle.shard_core.specs.Calls.{IsShelfLeft as IsWriteLeft}
+use Rattle.defrag_pass.specs.Moves.{IsShelfLeft, KeepsMoved}
 use Rattle.shard_core.specs.declared.refusals.DefragCause.{DefragCause}
 use Rattle.shard_core.specs.Vacating.{move_cause}
 use Rattle.shard_core.specs.Flushing.{flushed_count}
-use Rattle.shard_core.specs.Failing.{NoneFails, last_block, IsOpening, Fails, MayFail, FailsBy}
+use Rattle.shard_core.specs.Failing.{NoneFails, last_block, IsOpening, MayFail, FailsBy}
 
 -- ---- lists of gates
 

@@ -1,5 +1,5 @@
 // The calls of a shard on one digest: each finds the digest's sprig, and takes its step over it and the shelf.
-ghost use Rattle.std.specs.Prelude.{◌≡◌, ◌⊎◌, ◌<◌, ◌≤◌, ◌^◌, true, false, Some, Ok, Contains, IsOk, IfErr, IfSome, length};
+ghost use Rattle.std.specs.Prelude.{◌≡◌, ◌≢◌, ◌⊎◌, ◌<◌, ◌≤◌, ◌^◌, true, false, None, Some, Ok, Contains, IsOk, IfErr, IfSome, length};
 ghost use Rattle.disk_model.specs.Disk.{IsHonest};
 ghost use Rattle.rec_format.specs.declared.entry.Entry.{Entry};
 ghost use Rattle.rec_format.specs.Places.{device_number};
@@ -175,6 +175,10 @@ impl<D: Disk> Shard<D> {
         // So it is one get, which changes nothing.
         ensures makes { (s : State) → Agrees self.now s → IfSome result (λ v. Makes D.view (get_call digest.now now) (read_answer (Ok (Some v))) self.now s self.now) }
         ensures stored { IfSome result (λ v. GetsStored D.view self.now digest.now now (Ok (Some v))) }
+
+        // What is seen isn't missed where a buffer in memory has its block.
+        ensures missed { (s : State) (e : Entry) (b : BufferState) → Agrees self.now s → seen_entry now (held (setup_of self.now) digest.now self.now.sprigs) ≡ Some e
+            → Contains (in_memory self.now.shelf) b → b.block ≡ e.block → result ≢ None }
     {
         let part = self.part_of(digest);
         look_step(&self.sprigs[part], &self.shelf, digest, now)

@@ -1,5 +1,5 @@
 // Reads over the sprig of a digest: its record, from the shelf, and what is known of it without one.
-ghost use Rattle.std.specs.Prelude.{◌≡◌, ◌≤◌, ◌^◌, Some, Ok, Contains, IfErr, IfSome};
+ghost use Rattle.std.specs.Prelude.{◌≡◌, ◌≤◌, ◌^◌, ◌≢◌, None, Some, Ok, Contains, IfErr, IfSome};
 ghost use Rattle.disk_model.specs.Disk.{IsHonest};
 ghost use Rattle.rec_format.specs.declared.entry.Entry.{Entry};
 ghost use Rattle.rec_format.specs.Places.{device_number};
@@ -7,6 +7,7 @@ ghost use Rattle.model_device.specs.Book.{Setup};
 ghost use Rattle.model_device.specs.Device.{State, part_of, seen as seen_version};
 ghost use Rattle.model_device.specs.Events.{get_call};
 ghost use Rattle.write_buffer.specs.Buffers.{BufferState};
+ghost use Rattle.expiry_rule.specs.Seen.{seen_entry};
 ghost use Rattle.sprig_tree.specs.Entries.{entry_of};
 ghost use Rattle.block_shelf.specs.Disks.{OnlyRead};
 ghost use Rattle.block_shelf.specs.View.{in_memory};
@@ -132,10 +133,14 @@ pub(crate) fn look_step<'a, D: Disk>(
         → IfSome result (λ v. StepMakes D.view setup (part_of setup digest.now) (get_call digest.now now) (read_answer (Ok (Some v))) shelf.now s sprig.now shelf.now) }
     ensures stored { (setup : Setup) → IfSome result (λ v. ReadsStored D.view (StandTogether setup (part_of setup digest.now) sprig.now shelf.now)
         (entry_of digest.now sprig.now.entries) shelf.now digest.now now (Ok (Some v))) }
+
+    // What is seen isn't missed where a buffer in memory has its block.
+    ensures missed { (setup : Setup) (s : State) (e : Entry) (b : BufferState) → StandTogether setup (part_of setup digest.now) sprig.now shelf.now s → seen_entry now (entry_of digest.now sprig.now.entries) ≡ Some e
+        → Contains (in_memory shelf.now) b → b.block ≡ e.block → result ≢ None }
 {
     let found = sprig.find(digest);
-    let entry = seen(found.as_ref(), now)?;
-    shelf.look(place_of_entry(entry), entry)
+    let shown = seen(found.as_ref(), now)?;
+    shelf.look(place_of_entry(shown), shown)
 }
 
 /// The stamp, the void time and the units of the record that is seen at `now`, in milliseconds, by its sprig alone; none where none is

@@ -1,11 +1,9 @@
-use Rattle.std.proofs.Common.{◌≡◌, ◌≢◌, ℕ, sym, ap, ◌∙◌, subst, arith}
-use Rattle.std.specs.List.{AllByRecursion}
+use Rattle.std.proofs.Common.{◌≡◌, sym, ap, ◌∙◌, subst, arith}
 use Rattle.std.specs.Prelude.{Some, None, Result, IfErr}
 use Rattle.std.specs.Option.{option_copied}
 use Rattle.rec_format.specs.declared.version.Version.{Version}
 use Rattle.rec_format.specs.declared.entry.Entry.{Entry}
 use Rattle.model_device.specs.Device.{part_of}
-use Rattle.model_device.specs.Device as device
 use Rattle.model_device.specs.Events.{get_call}
 use Rattle.expiry_rule.specs.Seen.{seen_entry}
 use Rattle.sprig_tree.specs.Entries.{entry_of}
@@ -13,14 +11,14 @@ use Rattle.block_shelf.specs.declared.place.Place.{Place}
 use Rattle.block_shelf.specs.declared.refusals.ReadRefusal.{ReadRefusal}
 use Rattle.block_shelf.specs.declared.refusals.ReadRefusal.TheVariants as read
 use Rattle.block_shelf.specs.Standing.{IsCopyIn}
-use Rattle.block_shelf.specs.Reads.{copy_bytes, HasRead, IsUndamaged}
-use Rattle.law_steps.specs.Sprigs.{place_of}
+use Rattle.block_shelf.specs.Reads.{IsLookedUp, IsUndamaged}
 use Rattle.law_steps.specs.Standing.{StandTogether}
 use Rattle.shard_core.specs.Calls.{ReadsStored, read_answer}
 use Rattle.law_steps.specs.Events.{StepMakes}
 use Rattle.shard_core.proofs.Found.{seen_none, seen_some}
 use Rattle.law_steps.proofs.Found.{lies_found}
-use Rattle.shard_core.proofs.Getting.{seen_held, live_is, shown, shown_got, shown_is, shown_copy, shown_err, makes_unseen, makes_read}
+use Rattle.shard_core.proofs.Getting.{seen_held, live_is, shown, shown_err, makes_unseen, makes_read}
+use Rattle.shard_core.proofs.Looked.{block_here, live_here, looked_stored, looked_undamaged, seen_is}
 use Rattle.shard_core.proofs.get.get_step_in.Goals as goal
 
 pub returns-in_default-clause-makes : goal.returns-in_default-clause-makes
@@ -89,12 +87,10 @@ returns-in-Ok-clause-in_memory g c x b found there at =
     let seen : seen_entry c.args.now (entry_of c.args.digest.now c.args.sprig.now.entries) ≡ Some e = ap (seen_entry c.args.now) (sym (c.as_ref.ensures.value ∙ c.find-found.ensures.value))
     ∙ sym c.seen.ensures ∙ ap option_copied c.in-Some.is in
     let stands = c.requires.stand in
-    let is = seen_some stands.0 stands.1 c.args.now c.args.digest.now c.args.sprig.now stands.3.sprig_stands e seen in
-    let live = live_is g.D.Disk.view stands.0 c.args.digest.now c.args.sprig.now c.args.shelf.now c.read.new.self stands.1 c.args.now stands.3 e c.place_of_entry.result is c.place_of_entry.ensures in
-    let one : Some x ≡ Some e = sym found ∙ is.found_is in
-    let same : x ≡ e = cc in
+    let is = seen_is g.D.Disk.view stands.0 c.args.digest.now c.args.sprig.now c.args.shelf.now c.args.now e c.place_of_entry.result seen c.place_of_entry.ensures stands.1 stands.3 in
+    let live = live_here g.D.Disk.view stands.0 c.args.digest.now c.args.sprig.now c.args.shelf.now c.args.now e c.place_of_entry.result seen c.place_of_entry.ensures stands.1 stands.3 in
     let got = c.read.ensures.in_memory stands.0 stands.1 is.version b stands.3.shelf_stands.stands live.live live.entry_is is.names there
-    (at ∙ ap (λ (y : Entry). y.block) same ∙ sym (ap (λ (p : Place). p.block) c.place_of_entry.ensures)) in (
+    (block_here g.D.Disk.view stands.0 c.args.digest.now c.args.sprig.now c.args.shelf.now c.args.now e c.place_of_entry.result seen c.place_of_entry.ensures x b.block found at) in (
       got.0,
       subst (λ (r : Result Version ReadRefusal). IfErr (shown r) (λ refusal. refusal ≡ read.Memory)) c.in-Ok.is
           (shown_err (IsCopyIn b.stream is.version) (λ refusal. refusal ≡ read.Memory) c.read.result got.1),
@@ -105,34 +101,16 @@ returns-in-Ok-clause-stored g c setup is_setup =
     let e : Entry = c.in-Some.entry.now in
     let seen : seen_entry c.args.now (entry_of c.args.digest.now c.args.sprig.now.entries) ≡ Some e = ap (seen_entry c.args.now) (sym (c.as_ref.ensures.value ∙ c.find-found.ensures.value))
     ∙ sym c.seen.ensures ∙ ap option_copied c.in-Some.is in
-    let at_place = ap (λ (p : Place). p.block) c.place_of_entry.ensures in
+    let looked : IsLookedUp g.D.Disk.view c.place_of_entry.result e c.args.shelf.now c.read.result = record {
+      names = c.read.ensures.names;
+      version = c.read.ensures.version;
+      in_memory = λ setup s v b stands live is names has at. (c.read.ensures.in_memory setup s v b stands live is names has at).1;
+      read = c.read.ensures.read;
+      written = c.read.ensures.written;
+    } in
     subst (λ (r : Result Version ReadRefusal). ReadsStored g.D.Disk.view (StandTogether setup (part_of setup c.args.digest.now) c.args.sprig.now c.args.shelf.now)
     (entry_of c.args.digest.now c.args.sprig.now.entries) c.args.shelf.now c.args.digest.now c.args.now (shown r)) c.in-Ok.is
-    (record {
-      remembered = λ s stand x b found there at client.
-          let is = seen_some setup s c.args.now c.args.digest.now c.args.sprig.now stand.sprig_stands e seen in
-          let live = live_is g.D.Disk.view setup c.args.digest.now c.args.sprig.now c.args.shelf.now c.read.new.self s c.args.now stand e c.place_of_entry.result is c.place_of_entry.ensures in
-          let one : Some x ≡ Some e = sym found ∙ is.found_is in
-          let same : x ≡ e = cc in
-          let got = c.read.ensures.in_memory setup s is.version b stand.shelf_stands.stands live.live live.entry_is is.names there (at ∙ ap (λ (y : Entry). y.block) same ∙ sym at_place) in
-          shown_is (device.seen s c.args.now c.args.digest.now) is.version b.stream (λ refusal. refusal ≡ read.Memory) c.read.result client is.seen got.1;
-      copied = λ s stand w sees x b found there at.
-          let is = seen_some setup s c.args.now c.args.digest.now c.args.sprig.now stand.sprig_stands e seen in
-          let live = live_is g.D.Disk.view setup c.args.digest.now c.args.sprig.now c.args.shelf.now c.read.new.self s c.args.now stand e c.place_of_entry.result is c.place_of_entry.ensures in
-          let one : Some x ≡ Some e = sym found ∙ is.found_is in
-          let same : x ≡ e = cc in
-          let got = c.read.ensures.in_memory setup s is.version b stand.shelf_stands.stands live.live live.entry_is is.names there (at ∙ ap (λ (y : Entry). y.block) same ∙ sym at_place) in
-          shown_copy (device.seen s c.args.now c.args.digest.now) is.version w b.stream (λ refusal. refusal ≡ read.Memory) c.read.result is.seen sees got.1;
-      placed = λ told x is none.
-          let one : Some x ≡ Some e = sym is ∙ seen in
-          let same : x ≡ e = cc in
-          let place : c.place_of_entry.result ≡ place_of x = c.place_of_entry.ensures ∙ ap place_of (sym same) in
-          let bytes = (g.D.Disk.view c.args.shelf.now.disk).seen in
-          shown_got x (copy_bytes c.args.shelf.now.geometry (place_of x) bytes) c.read.result
-          (subst (λ (p : Place). HasRead x (copy_bytes c.args.shelf.now.geometry p bytes) c.read.result) place
-          (subst (λ (y : Entry). HasRead y (copy_bytes c.args.shelf.now.geometry c.place_of_entry.result bytes) c.read.result) (sym same)
-          (c.read.ensures.read told (subst (λ (block : ℕ). AllByRecursion (λ b. b.block ≢ block) c.args.shelf.now.buffers) (sym (ap (λ (p : Place). p.block) place)) none))));
-    })
+    (looked_stored g.D.Disk.view setup c.args.digest.now c.args.sprig.now c.args.shelf.now c.args.now e c.place_of_entry.result seen c.place_of_entry.ensures c.read.result looked)
 
 pub returns-in-Err-clause-makes : goal.returns-in-Err-clause-makes
 returns-in-Err-clause-makes g c setup s is_setup stand =
@@ -153,12 +131,10 @@ returns-in-Err-clause-in_memory g c x b found there at =
     let seen : seen_entry c.args.now (entry_of c.args.digest.now c.args.sprig.now.entries) ≡ Some e = ap (seen_entry c.args.now) (sym (c.as_ref.ensures.value ∙ c.find-found.ensures.value))
     ∙ sym c.seen.ensures ∙ ap option_copied c.in-Some.is in
     let stands = c.requires.stand in
-    let is = seen_some stands.0 stands.1 c.args.now c.args.digest.now c.args.sprig.now stands.3.sprig_stands e seen in
-    let live = live_is g.D.Disk.view stands.0 c.args.digest.now c.args.sprig.now c.args.shelf.now c.read.new.self stands.1 c.args.now stands.3 e c.place_of_entry.result is c.place_of_entry.ensures in
-    let one : Some x ≡ Some e = sym found ∙ is.found_is in
-    let same : x ≡ e = cc in
+    let is = seen_is g.D.Disk.view stands.0 c.args.digest.now c.args.sprig.now c.args.shelf.now c.args.now e c.place_of_entry.result seen c.place_of_entry.ensures stands.1 stands.3 in
+    let live = live_here g.D.Disk.view stands.0 c.args.digest.now c.args.sprig.now c.args.shelf.now c.args.now e c.place_of_entry.result seen c.place_of_entry.ensures stands.1 stands.3 in
     let got = c.read.ensures.in_memory stands.0 stands.1 is.version b stands.3.shelf_stands.stands live.live live.entry_is is.names there
-    (at ∙ ap (λ (y : Entry). y.block) same ∙ sym (ap (λ (p : Place). p.block) c.place_of_entry.ensures)) in (
+    (block_here g.D.Disk.view stands.0 c.args.digest.now c.args.sprig.now c.args.shelf.now c.args.now e c.place_of_entry.result seen c.place_of_entry.ensures x b.block found at) in (
       got.0,
       subst (λ (r : Result Version ReadRefusal). IfErr (shown r) (λ refusal. refusal ≡ read.Memory)) c.in-Err.is
           (shown_err (IsCopyIn b.stream is.version) (λ refusal. refusal ≡ read.Memory) c.read.result got.1),
@@ -169,41 +145,28 @@ returns-in-Err-clause-stored g c setup is_setup =
     let e : Entry = c.in-Some.entry.now in
     let seen : seen_entry c.args.now (entry_of c.args.digest.now c.args.sprig.now.entries) ≡ Some e = ap (seen_entry c.args.now) (sym (c.as_ref.ensures.value ∙ c.find-found.ensures.value))
     ∙ sym c.seen.ensures ∙ ap option_copied c.in-Some.is in
-    let at_place = ap (λ (p : Place). p.block) c.place_of_entry.ensures in
+    let looked : IsLookedUp g.D.Disk.view c.place_of_entry.result e c.args.shelf.now c.read.result = record {
+      names = c.read.ensures.names;
+      version = c.read.ensures.version;
+      in_memory = λ setup s v b stands live is names has at. (c.read.ensures.in_memory setup s v b stands live is names has at).1;
+      read = c.read.ensures.read;
+      written = c.read.ensures.written;
+    } in
     subst (λ (r : Result Version ReadRefusal). ReadsStored g.D.Disk.view (StandTogether setup (part_of setup c.args.digest.now) c.args.sprig.now c.args.shelf.now)
     (entry_of c.args.digest.now c.args.sprig.now.entries) c.args.shelf.now c.args.digest.now c.args.now (shown r)) c.in-Err.is
-    (record {
-      remembered = λ s stand x b found there at client.
-          let is = seen_some setup s c.args.now c.args.digest.now c.args.sprig.now stand.sprig_stands e seen in
-          let live = live_is g.D.Disk.view setup c.args.digest.now c.args.sprig.now c.args.shelf.now c.read.new.self s c.args.now stand e c.place_of_entry.result is c.place_of_entry.ensures in
-          let one : Some x ≡ Some e = sym found ∙ is.found_is in
-          let same : x ≡ e = cc in
-          let got = c.read.ensures.in_memory setup s is.version b stand.shelf_stands.stands live.live live.entry_is is.names there (at ∙ ap (λ (y : Entry). y.block) same ∙ sym at_place) in
-          shown_is (device.seen s c.args.now c.args.digest.now) is.version b.stream (λ refusal. refusal ≡ read.Memory) c.read.result client is.seen got.1;
-      copied = λ s stand w sees x b found there at.
-          let is = seen_some setup s c.args.now c.args.digest.now c.args.sprig.now stand.sprig_stands e seen in
-          let live = live_is g.D.Disk.view setup c.args.digest.now c.args.sprig.now c.args.shelf.now c.read.new.self s c.args.now stand e c.place_of_entry.result is c.place_of_entry.ensures in
-          let one : Some x ≡ Some e = sym found ∙ is.found_is in
-          let same : x ≡ e = cc in
-          let got = c.read.ensures.in_memory setup s is.version b stand.shelf_stands.stands live.live live.entry_is is.names there (at ∙ ap (λ (y : Entry). y.block) same ∙ sym at_place) in
-          shown_copy (device.seen s c.args.now c.args.digest.now) is.version w b.stream (λ refusal. refusal ≡ read.Memory) c.read.result is.seen sees got.1;
-      placed = λ told x is none.
-          let one : Some x ≡ Some e = sym is ∙ seen in
-          let same : x ≡ e = cc in
-          let place : c.place_of_entry.result ≡ place_of x = c.place_of_entry.ensures ∙ ap place_of (sym same) in
-          let bytes = (g.D.Disk.view c.args.shelf.now.disk).seen in
-          shown_got x (copy_bytes c.args.shelf.now.geometry (place_of x) bytes) c.read.result
-          (subst (λ (p : Place). HasRead x (copy_bytes c.args.shelf.now.geometry p bytes) c.read.result) place
-          (subst (λ (y : Entry). HasRead y (copy_bytes c.args.shelf.now.geometry c.place_of_entry.result bytes) c.read.result) (sym same)
-          (c.read.ensures.read told (subst (λ (block : ℕ). AllByRecursion (λ b. b.block ≢ block) c.args.shelf.now.buffers) (sym (ap (λ (p : Place). p.block) place)) none))));
-    })
+    (looked_stored g.D.Disk.view setup c.args.digest.now c.args.sprig.now c.args.shelf.now c.args.now e c.place_of_entry.result seen c.place_of_entry.ensures c.read.result looked)
 
 pub returns-in-Err-clause-undamaged : goal.returns-in-Err-clause-undamaged
 returns-in-Err-clause-undamaged g c honest setup s is_setup stand placed =
     let e : Entry = c.in-Some.entry.now in
     let seen : seen_entry c.args.now (entry_of c.args.digest.now c.args.sprig.now.entries) ≡ Some e = ap (seen_entry c.args.now) (sym (c.as_ref.ensures.value ∙ c.find-found.ensures.value))
     ∙ sym c.seen.ensures ∙ ap option_copied c.in-Some.is in
-    let is = seen_some setup s c.args.now c.args.digest.now c.args.sprig.now stand.sprig_stands e seen in
-    let live = live_is g.D.Disk.view setup c.args.digest.now c.args.sprig.now c.args.shelf.now c.read.new.self s c.args.now stand e c.place_of_entry.result is c.place_of_entry.ensures in
+    let looked : IsLookedUp g.D.Disk.view c.place_of_entry.result e c.args.shelf.now c.read.result = record {
+      names = c.read.ensures.names;
+      version = c.read.ensures.version;
+      in_memory = λ setup s v b stands live is names has at. (c.read.ensures.in_memory setup s v b stands live is names has at).1;
+      read = c.read.ensures.read;
+      written = c.read.ensures.written;
+    } in
     subst (λ (r : Result Version ReadRefusal). IfErr (shown r) IsUndamaged) c.in-Err.is
-    (shown_err (λ v. v ≡ is.version) IsUndamaged c.read.result (c.read.ensures.written honest setup s is.version stand.shelf_stands.stands placed live.live live.entry_is is.names))
+    (looked_undamaged g.D.Disk.view setup c.args.digest.now c.args.sprig.now c.args.shelf.now c.args.now e c.place_of_entry.result seen c.place_of_entry.ensures c.read.result looked honest s stand placed)

@@ -1,5 +1,4 @@
-use Rattle.std.proofs.Common.{◌≡◌, ℕ, Bool, length, refl, sym, ap, ◌∙◌, subst, arith, inl, inr, true}
-use Rattle.block_shelf.proofs.Roomed.{room_none}
+use Rattle.std.proofs.Common.{◌≡◌, ℕ, Bool, length, refl, sym, ap, ◌∙◌, subst, arith, inr, true}
 use Rattle.std.specs.Prelude.{Option, Some, None, Result, Ok, Err, IfOk, ◌⊎◌, IfErr}
 use Rattle.std.proofs.lemmas.Bool.{false≢true}
 use Rattle.std.proofs.lemmas.Result.{err_from_is_err_and}
@@ -23,9 +22,8 @@ use Rattle.shard_core.specs.Keeping.{KeepsBy}
 use Rattle.shard_core.proofs.Keeping.{keeps_all}
 use Rattle.shard_core.proofs.Later.{later_none}
 use Rattle.shard_core.proofs.Making.{own_of}
-use Rattle.shard_core.proofs.Puts.{stamp_fine, unfit_refusal, spent_refusal, put_writes, stands_against, memory_wants, makes_nothing, unfit_left}
+use Rattle.shard_core.proofs.Puts.{stamp_fine, unfit_refusal, spent_refusal, put_writes, stands_against, makes_nothing, unfit_left}
 use Rattle.block_shelf.proofs.Surely.{sure_none}
-use Rattle.block_shelf.proofs.KeptAll.{all_same}
 use Rattle.shard_core.proofs.Failing.{by_none, none_still}
 use Rattle.shard_core.proofs.put.put_step.Goals as goal
 

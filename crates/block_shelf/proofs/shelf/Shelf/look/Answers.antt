@@ -5,7 +5,7 @@ use Rattle.write_buffer.specs.Buffers.{BufferState}
 use Rattle.block_shelf.specs.View.{ShelfView}
 use Rattle.block_shelf.specs.Reads.{HasRead}
 use Rattle.block_shelf.specs.Standing.{IsCopyIn, HasRecord}
-use Rattle.block_shelf.proofs.CopyTexts.{copy_kept, lent_is, read_copy, read_exact}
+use Rattle.block_shelf.proofs.CopyTexts.{copy_kept, head_there, lent_is, read_copy, read_exact}
 use Rattle.block_shelf.proofs.shelf.Shelf.look.Goals as goal
 
 -- what follows from two things that hold of a value, where there is one
@@ -44,3 +44,9 @@ returns-clause-copied g c = λ b v has at stands names.
     subst (λ (x : BufferState). HasRecord x c.args.place.unit c.args.entry.now.digest v) (c.in_ok-buffer.ensures.only b has at) stands in
     lent_is c.args.entry.now v c.copy_in.result.now c.lent_in.result names
     (c.copy_in.ensures.record c.args.entry.now.digest v here (sym names.units ∙ c.requires.units.0)) c.lent_in.ensures.some c.lent_in.ensures.none
+
+pub returns-clause-missed : goal.returns-clause-missed
+returns-clause-missed g c setup s v b stands live is names has at missed =
+    let buffer = c.in_ok-buffer.ensures in
+    head_there c.args.place c.args.entry.now c.in_ok-buffer.buffer.now c.copy_in.result.now c.requires.units.0 c.copy_in.ensures.record setup c.args.self.now s v
+    buffer.whole.cache.each stands live is names buffer.some.0 buffer.some.1 (c.lent_in.ensures.none missed)
